@@ -1,0 +1,6 @@
+pub mod Cells
+pub mod First
+pub mod Fronts
+pub mod Matching
+pub mod Packs
+pub mod Test

@@ -1,0 +1,11 @@
+pub mod Bytes
+pub mod Firsts
+pub mod Packing
+pub mod Rules
+pub mod Lawful
+pub mod Space
+pub mod Fields
+pub mod Refusals
+pub mod Classes
+pub mod Kinds
+pub mod Examples

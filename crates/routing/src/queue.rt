@@ -1,0 +1,42 @@
+// The decision that is a queue.
+ghost use Rattle.routing.specs.Kinds.{same-queue, queue-bytes, queue-of};
+use crate::bytes::byte_at;
+use crate::bytes::put_front;
+use crate::kind::Kind;
+
+#[derive(Clone, Copy, PartialEq, Eq, Debug)]
+pub struct Queue {
+    pub queue: u8,
+}
+
+pub impl Kind for Queue as QueueKind {
+    ghost alike = { same-queue };
+
+    ghost code = { 1 };
+
+    ghost size = { 1 };
+
+    ghost written = { queue-bytes };
+
+    ghost reading = { queue-of };
+
+    fn same(self, other: Queue) -> bool {
+        self.queue == other.queue
+    }
+
+    fn kind_code() -> u8 {
+        1
+    }
+
+    fn decision_size() -> usize {
+        1
+    }
+
+    fn write(self, out: &mut [u8]) {
+        put_front(&[self.queue], out);
+    }
+
+    fn read(bytes: &[u8]) -> Queue {
+        Queue { queue: byte_at(bytes, 0) }
+    }
+}
