@@ -13,7 +13,11 @@ abbrev pub or-else : Option ℕ → Option ℕ → Option ℕ
 or-else None q = q
 or-else (Some p) q = Some p
 
+-- the first place that the numbers below n give
+abbrev pub first-some : (ℕ → Option ℕ) → ℕ → Option ℕ
+first-some f zero = None
+first-some f (suc n) = or-else (first-some f n) (f n)
+
 -- the place of the first of the numbers below n that is bad
 abbrev pub first-below : (ℕ → Bool) → (ℕ → ℕ) → ℕ → Option ℕ
-first-below bad place zero = None
-first-below bad place (suc n) = or-else (first-below bad place n) (broken (bad n) (place n))
+first-below bad place = first-some (λ k. broken (bad k) (place k))

@@ -17,7 +17,7 @@ pub enum WidthsFault {
     // there are not 1 to 8 fields
     Fields,
     // the width of this field is not 1 to 32
-    Width(usize),
+    Width(u8),
 }
 
 mod reads;

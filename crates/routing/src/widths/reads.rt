@@ -23,18 +23,19 @@ impl WidthsFault {
     {
         match self {
             WidthsFault::Fields => Refusal { layer, number: 3, place: 1 },
-            WidthsFault::Width(place) => Refusal { layer, number: 8, place },
+            WidthsFault::Width(field) => Refusal { layer, number: 8, place: field as usize },
         }
     }
 }
 
 // The first field whose width is not 1 to 32.
-fn width_fault(widths: &[u8]) -> Option<usize>
+fn width_fault(widths: &[u8]) -> Option<u8>
+    requires { ⌜ length (now widths) ≤ 8 ⌝ }
     ensures { λ r. ⌜ r ≡ width-refusal (now (widths .entry)) ⌝ }
 {
     for (k, width) in widths.iter().enumerate() {
         if *width < 1 || *width > 32 {
-            return Some(k + 1);
+            return Some((k + 1) as u8);
         }
     }
     None
@@ -91,24 +92,24 @@ impl Widths {
     }
 
     // The first place of a message, counted from 1, that holds no value of its field, or not 0 past the last field.
-    pub fn message_fault(self, message: Message) -> Option<usize>
+    pub fn message_fault(self, message: Message) -> Option<u8>
         ensures { λ r. ⌜ r ≡ message-refusal (widths-of self) message ⌝ }
     {
         for k in 0..8 {
             if !within(message[k], self.width(k)) {
-                return Some(k + 1);
+                return Some((k + 1) as u8);
             }
         }
         None
     }
 
     // The first field, counted from 1, whose ends make no interval of it.
-    pub fn ends_fault(self, ends: &[Ends; 8]) -> Option<usize>
+    pub fn ends_fault(self, ends: &[Ends; 8]) -> Option<u8>
         ensures { λ r. ⌜ r ≡ ends-refusal (widths-of self) (now (ends .entry)) ⌝ }
     {
         for k in 0..self.fields() {
             if !ends[k].fits(self.width(k)) {
-                return Some(k + 1);
+                return Some((k + 1) as u8);
             }
         }
         None

@@ -1,0 +1,49 @@
+-- Parts of a file. Assumes nothing.
+use Prim.Native.Nat.{ℕ, min, _+_, _-_, _*_, _≤_, _<_}
+use native.Mathlib.Omega.{arith}
+use mathlib.Core.Path.{_≡_, sym, ap, _∙_}
+use mathlib.Core.Logic.{⊎-elim}
+use mathlib.Core.List.{List, [], map}
+use Rattle.std.specs.Iters.{counting}
+use Rattle.std.specs.shelf.Maps.{nth}
+use Rattle.std.specs.declared.option.Option.the-variants.{Some, None}
+use Rattle.std.proofs.shelf.Counted.{length-map-counting, getD-map-counting}
+use Rattle.std.proofs.shelf.Maps.{nth-getD, nth-past}
+use lib.ListN.{length, take, drop}
+use Rattle.std.proofs.shelf.Lists.{take-all, drop-all, length-drop}
+use Rattle.std.proofs.shelf.Tests.{cases-lt}
+use Rattle.file.specs.Layout.{part, fields, rules, decisions-at}
+use Rattle.file.specs.Contents.{decision-bytes}
+
+take-none : (n : ℕ) → take {A = ℕ} n [] ≡ []
+take-none n = take-all n [] (omega arith)
+
+-- a slice whose bounds stop at the end
+pub part-bounded : (bs : List ℕ) (at n from to : ℕ) → from ≡ min at (length bs) → to ≡ min (at + n) (length bs) → take (to - from) (drop from bs) ≡ part at n bs
+part-bounded bs at n from to f t =
+    ⊎-elim
+    (λ (h : at < length bs).
+      let p : from ≡ at = omega arith in
+      ⊎-elim
+      (λ (i : at + n < length bs). let q : to - from ≡ n = omega arith in rw (q, p))
+      (λ (i : length bs ≤ at + n).
+        rw p (take-all _ (drop at bs) (omega (arith, length-drop at bs)) ∙ sym (take-all n (drop at bs) (omega (arith, length-drop at bs)))))
+      (cases-lt (at + n) (length bs)))
+    (λ (h : length bs ≤ at).
+      let p : drop from bs ≡ [] = drop-all from bs (omega arith) in
+      let q : drop at bs ≡ [] = drop-all at bs h in
+      rw (p, q) (take-none (to - from) ∙ sym (take-none n)))
+    (cases-lt at (length bs))
+
+module _ {X : Type 0} (f : ℕ → X) (n r : ℕ) where
+  -- an item of a list that is made by counting, and none past its end
+  pub nth-counted : r < n → nth (map f (counting 0 n)) r ≡ Some (f r)
+  nth-counted h =
+      nth-getD (map f (counting 0 n)) r (f r) (omega (arith, length-map-counting f 0 n)) ∙ ap Some (getD-map-counting f 0 n r r (f r) h (omega arith))
+
+  pub nth-beyond : n ≤ r → nth (map f (counting 0 n)) r ≡ None
+  nth-beyond h = nth-past (map f (counting 0 n)) r (omega (arith, length-map-counting f 0 n))
+
+-- a decision's bytes, by numbers as they were read
+pub decision-part : (bs : List ℕ) (d n r size s at : ℕ) → d ≡ fields bs → n ≡ rules bs → s ≡ size → at ≡ decisions-at d n + r * s → part at s bs ≡ decision-bytes bs size r
+decision-part bs d n r size s at p q e h = rw (h, p, q, e)

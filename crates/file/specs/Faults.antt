@@ -1,0 +1,26 @@
+-- The number and the place of each fault. Assumes nothing.
+use Prim.Native.Nat.{ℕ}
+use Rattle.file.specs.declared.fault.FileFault.{FileFault}
+use Rattle.file.specs.declared.fault.FileFault.the-variants as f
+use Rattle.file.specs.declared.fault.WriteFault.{WriteFault}
+use Rattle.file.specs.declared.fault.WriteFault.the-variants as w
+
+abbrev pub file-reason : FileFault → ℕ × ℕ
+file-reason (f.Short length) = (1, length)
+file-reason (f.Fixed byte) = (2, byte)
+file-reason f.Fields = (3, 1)
+file-reason f.Kind = (4, 2)
+file-reason f.Rules = (5, 4)
+file-reason (f.Offset byte) = (6, byte)
+file-reason (f.Length length) = (7, length)
+file-reason (f.Width byte) = (8, byte)
+file-reason (f.Ends byte) = (9, byte)
+
+abbrev pub write-reason : WriteFault → ℕ × ℕ
+write-reason w.Fields = (3, 1)
+write-reason w.Kind = (4, 2)
+write-reason w.Rules = (5, 4)
+write-reason (w.Width field) = (8, field)
+write-reason (w.Ends field) = (9, field)
+write-reason (w.Room needed) = (16, needed)
+write-reason (w.Count done) = (17, done)

@@ -1,0 +1,6 @@
+// The file of a routing table: a reader over its bytes, and a writer in stages.
+mod checks;
+pub mod fault;
+mod number;
+pub mod reader;
+pub mod rules;

@@ -1,0 +1,73 @@
+// Lists of rules that can be written to a file.
+ghost use mathlib.Core.Path.{_≡_};
+ghost use mathlib.Core.List.{List, map};
+ghost use lib.ListN.{length, getD};
+ghost use denote.Ref.{now};
+ghost use Rattle.std.specs.shelf.Maps.{nth};
+ghost use Rattle.routing.specs.declared.ends.Ends.{Ends as Pair};
+ghost use Rattle.file.specs.Layout.{rules};
+ghost use Rattle.file.specs.Contents.{blank, rows-of, decisions-of, row-of-rule, decision-of-rule};
+use crate::reader::TableFile;
+use routing::ends::Ends;
+use routing::kind::Kind;
+use routing::rule::Rule;
+
+// The intervals and the decision of each rule, in order. Rules count from 0 here.
+pub trait Rules<K: Kind> {
+    ghost rows: { Self → List (List Pair) };
+
+    ghost decisions: { Self → List K };
+
+    fn count(&self) -> usize
+        ensures of_rows { λ r. ⌜ r ≡ length (rows (now (self .entry))) ⌝ }
+        ensures of_decisions { λ r. ⌜ r ≡ length (decisions (now (self .entry))) ⌝ };
+
+    // The pairs of a rule, all [0, 0] where there is none.
+    fn row(&self, rule: usize) -> [Ends; 8]
+        ensures { λ r. ⌜ r ≡ getD (rows (now (self .entry))) rule blank ⌝ };
+
+    fn decision(&self, rule: usize) -> Option<K>
+        ensures { λ r. ⌜ r ≡ nth (decisions (now (self .entry))) rule ⌝ };
+}
+
+pub impl<'a, K: Kind> Rules<K> for TableFile<'a, K> as FileRules {
+    ghost rows = { λ f. rows-of (now (f .bytes)) };
+
+    ghost decisions = { λ f. decisions-of (K·Kind .reading) (K·Kind .size) (now (f .bytes)) };
+
+    fn count(&self) -> usize {
+        self.rules()
+    }
+
+    fn row(&self, rule: usize) -> [Ends; 8] {
+        self.row_at(rule)
+    }
+
+    fn decision(&self, rule: usize) -> Option<K> {
+        self.decision_at(rule)
+    }
+}
+
+// Rules that a caller keeps in a row.
+#[derive(Clone, Copy)]
+pub struct RuleList<'a, K> {
+    pub rules: &'a [Rule<K>],
+}
+
+pub impl<'a, K: Kind> Rules<K> for RuleList<'a, K> as ListRules {
+    ghost rows = { λ l. map row-of-rule (now (l .rules)) };
+
+    ghost decisions = { λ l. map decision-of-rule (now (l .rules)) };
+
+    fn count(&self) -> usize {
+        self.rules.len()
+    }
+
+    fn row(&self, rule: usize) -> [Ends; 8] {
+        if rule < self.rules.len() { self.rules[rule].ends } else { [Ends { low: 0, high: 0 }; 8] }
+    }
+
+    fn decision(&self, rule: usize) -> Option<K> {
+        if rule < self.rules.len() { Some(self.rules[rule].decision) } else { None }
+    }
+}
