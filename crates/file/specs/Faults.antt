@@ -4,6 +4,8 @@ use Rattle.file.specs.declared.fault.FileFault.{FileFault}
 use Rattle.file.specs.declared.fault.FileFault.the-variants as f
 use Rattle.file.specs.declared.fault.WriteFault.{WriteFault}
 use Rattle.file.specs.declared.fault.WriteFault.the-variants as w
+use Rattle.routing.specs.declared.widths.WidthsFault.{WidthsFault}
+use Rattle.routing.specs.declared.widths.WidthsFault.the-variants as v
 
 abbrev pub file-reason : FileFault → ℕ × ℕ
 file-reason (f.Short length) = (1, length)
@@ -24,3 +26,8 @@ write-reason (w.Width field) = (8, field)
 write-reason (w.Ends field) = (9, field)
 write-reason (w.Room needed) = (16, needed)
 write-reason (w.Count done) = (17, done)
+
+-- a fault of the widths, as the writer tells it
+abbrev pub write-of : WidthsFault → WriteFault
+write-of v.Fields = w.Fields
+write-of (v.Width field) = w.Width field

@@ -1,7 +1,7 @@
 -- The layout of a table's file, over its bytes, and the rules that a lawful one keeps. Assumes nothing.
-use Prim.Native.Nat.{ℕ, _+_, _-_, _*_}
+use Prim.Native.Nat.{ℕ, _+_, _-_, _*_, _/_, _%_}
 use mathlib.Core.Bool.{cond, not}
-use mathlib.Core.List.{List, map}
+use mathlib.Core.List.{List, [], _∷_, map}
 use lib.ListN.{length, getD, take, drop}
 use lib.Dec.{eqb, ltb}
 use Rattle.std.specs.Iters.{counting}
@@ -21,6 +21,10 @@ two bs i = byte bs i * 256 + byte bs (i + 1)
 
 abbrev pub four : List ℕ → ℕ → ℕ
 four bs i = byte bs i * 16777216 + byte bs (i + 1) * 65536 + byte bs (i + 2) * 256 + byte bs (i + 3)
+
+-- the four bytes of a number, high byte first
+abbrev pub four-bytes : ℕ → List ℕ
+four-bytes n = (n / 16777216 % 256) ∷ (n / 65536 % 256) ∷ (n / 256 % 256) ∷ (n % 256) ∷ []
 
 -- the n bytes at a place
 abbrev pub part : ℕ → ℕ → List ℕ → List ℕ

@@ -2,5 +2,8 @@
 mod checks;
 pub mod fault;
 mod number;
+mod place;
 pub mod reader;
 pub mod rules;
+pub mod stage;
+pub mod writer;

@@ -5,7 +5,7 @@ use mathlib.Core.Path.{_≡_}
 use mathlib.Core.Logic.{⊎-elim}
 use mathlib.Core.List.{List, _++_}
 use lib.ListN.{length, take, drop}
-use Rattle.std.proofs.shelf.Lists.{take-all, drop-all}
+use Rattle.std.proofs.shelf.Lists.{take-all, drop-all, append-nil}
 use Rattle.std.proofs.shelf.Tests.{cases-lt}
 use Rattle.routing.specs.Bytes.{front}
 
@@ -20,3 +20,7 @@ front-copied bs out n e =
       let p : n ≡ length out = omega arith in
       rw (p, drop-all (length out) out (omega arith), drop-all (length bs) out (omega arith)))
     (cases-lt (length bs) (length out))
+
+-- bytes that fill the buffer
+pub front-whole : (bs out : List ℕ) → length out ≡ length bs → front bs out ≡ bs
+front-whole bs out e = rw (take-all (length out) bs (omega arith), drop-all (length bs) out (omega arith)) (append-nil bs)
