@@ -1,9 +1,9 @@
 -- Parts of a file. Assumes nothing.
-use Prim.Native.Nat.{ℕ, min, _+_, _-_, _*_, _≤_, _<_}
+use Prim.Native.Nat.{ℕ, zero, suc, min, _+_, _-_, _*_, _≤_, _<_}
 use native.Mathlib.Omega.{arith}
 use mathlib.Core.Path.{_≡_, sym, ap, _∙_}
 use mathlib.Core.Logic.{⊎-elim}
-use mathlib.Core.List.{List, [], map}
+use mathlib.Core.List.{List, [], _∷_, map}
 use Rattle.std.specs.Iters.{counting}
 use Rattle.std.specs.shelf.Maps.{nth}
 use Rattle.std.specs.declared.option.Option.the-variants.{Some, None}
@@ -47,3 +47,9 @@ module _ {X : Type 0} (f : ℕ → X) (n r : ℕ) where
 -- a decision's bytes, by numbers as they were read
 pub decision-part : (bs : List ℕ) (d n r size s at : ℕ) → d ≡ fields bs → n ≡ rules bs → s ≡ size → at ≡ decisions-at d n + r * s → part at s bs ≡ decision-bytes bs size r
 decision-part bs d n r size s at p q e h = rw (h, p, q, e)
+
+-- within a list there is an item
+pub nth-there : {X : Type 0} {P : Type 0} (xs : List X) (k : ℕ) → k < length xs → None ≡ nth xs k → P
+nth-there [] k h e = absurd (omega arith)
+nth-there (x ∷ xs) zero h e = let z : _≡_ {A = ℕ} 0 1 = cc in absurd (omega arith)
+nth-there (x ∷ xs) (suc k) h e = nth-there xs k (omega arith) e

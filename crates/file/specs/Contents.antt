@@ -1,15 +1,20 @@
 -- What a file holds. Assumes nothing.
-use Prim.Native.Nat.{ℕ, _+_, _*_, _/_, _%_}
-use mathlib.Core.Bool.{cond}
-use mathlib.Core.List.{List, [], _∷_, _++_, map}
-use lib.ListN.{length, take, replicate}
-use lib.Dec.{ltb}
+use Prim.Native.Nat.{ℕ, _+_, _*_}
+use mathlib.Core.Path.{_≡_}
+use mathlib.Core.List.{List, _++_, map}
+use lib.ListN.{length, getD, replicate}
 use Rattle.std.specs.Iters.{counting}
 use Rattle.std.specs.Joined.{joined}
+use Rattle.std.specs.Options.{mapped}
+use Rattle.std.specs.declared.option.Option.{Option}
+use Rattle.std.specs.declared.option.Option.the-variants.{None}
 use Rattle.routing.specs.declared.ends.Ends.{Ends}
 use Rattle.routing.specs.declared.rule.Rule.{Rule}
+use Rattle.routing.specs.Firsts.{first-some}
+use Rattle.routing.specs.Lawful.{ends-refusal}
 use Rattle.routing.specs.Space.{at}
-use Rattle.file.specs.Layout.{part, fields, rules, rows-at, decisions-at, no-ends, eight, row-of}
+use Rattle.file.specs.Layout.{part, fields, rules, decisions-at, no-ends, eight, row-of, width-bytes, file-refusal, first-of}
+use Rattle.file.specs.Stages.{row-bytes, head-bytes, start-refusal}
 
 -- a row with no ends
 abbrev pub blank : List Ends
@@ -37,3 +42,28 @@ row-of-rule r = r .ends
 
 abbrev pub decision-of-rule : {K : Type 0} → Rule K → K
 decision-of-rule r = r .decision
+
+-- the rows and the decisions of a file, one after another
+abbrev pub rows-bytes : ℕ → List (List Ends) → List ℕ
+rows-bytes d rows = joined (row-bytes d) rows
+
+-- the file of a table, by how a decision is written
+abbrev pub file-bytes : {K : Type 0} → (K → List ℕ) → ℕ → List ℕ → List (List Ends) → List K → List ℕ
+file-bytes written code ws rows decisions =
+    (head-bytes (length ws) (length rows) code ++ ws) ++ (rows-bytes (length ws) rows ++ joined written decisions)
+
+-- the first field of the first row whose ends make no interval of it
+abbrev pub rows-refusal : List ℕ → List (List Ends) → Option ℕ
+rows-refusal ws rows = first-some (λ r. ends-refusal ws (getD rows r blank)) (length rows)
+
+-- writing a whole table, with decisions of a size: what a start refuses, and then 9
+abbrev pub table-refusal : List ℕ → List (List Ends) → ℕ → ℕ → Option (ℕ × ℕ)
+table-refusal ws rows size room =
+    first-of (start-refusal ws (length rows) size room) (mapped (λ field. (9, field)) (rows-refusal ws rows))
+
+-- A file reads as a table: it is lawful, and has these widths, rules and decisions. Pairs past the last field are not kept.
+pub record Reads-as {K : Type 0} (reading : List ℕ → K) (code size : ℕ) (bs ws : List ℕ) (rows : List (List Ends)) (decisions : List K) : Type 0 where
+  pub lawful : file-refusal bs code size ≡ None
+  pub same-widths : width-bytes bs ≡ ws
+  pub same-rows : rows-of bs ≡ map (trimmed (length ws)) rows
+  pub same-decisions : decisions-of reading size bs ≡ decisions

@@ -1,4 +1,4 @@
 pub mod Faults
 pub mod Layout
-pub mod Contents
 pub mod Stages
+pub mod Contents

@@ -6,4 +6,5 @@ mod place;
 pub mod reader;
 pub mod rules;
 pub mod stage;
+pub mod whole;
 pub mod writer;

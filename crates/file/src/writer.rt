@@ -8,7 +8,7 @@ ghost use Rattle.std.specs.declared.option.Option.the-variants.{Some, None};
 ghost use Rattle.routing.specs.Fields.{widths-of};
 ghost use Rattle.file.specs.Faults.{write-reason, write-of};
 ghost use Rattle.file.specs.Layout.{file-length, low-at, decisions-at};
-ghost use Rattle.file.specs.Stages.{put, row-bytes, head-bytes, plan-fields, plan-length, Planned, Begun, start-refusal, row-refusal, row-told, row-next, turn-refusal, turn-told, turned, decision-refusal, decision-told, decision-next, end-refusal, end-told, judged, changed, granted, row-at, decision-place};
+ghost use Rattle.file.specs.Stages.{put, row-bytes, head-bytes, plan-fields, plan-length, Planned, Begun, start-refusal, row-refusal, row-told, row-next, turn-refusal, turn-told, turned, decision-refusal, decision-told, decision-next, end-refusal, end-told, judged, changed, row-at, decision-place};
 use crate::fault::WriteFault;
 use crate::place::put_decision;
 use crate::place::put_front;
@@ -143,7 +143,7 @@ impl DecisionStage {
             λ _. ⌜ now (out .exit) ≡ changed (decision-refusal self code size (length (now (out .entry)))) (now (out .entry))
               (put (decision-place self) (written decision) (now (out .entry))) ⌝
         }
-        ensures kept { λ r. ⌜ (decision-told r ≡ granted (decision-next self) → reading (written decision) ≡ decision) ⌝ }
+        ensures kept { λ _. ⌜ (decision-refusal self code size (length (now (out .entry))) ≡ None → reading (written decision) ≡ decision) ⌝ }
     {
         let needed = self.plan.length();
         if out.len() < needed {
