@@ -1,3 +1,7 @@
+pub mod Again
+pub mod Back
+pub mod Joins
+pub mod Numbers
 pub mod Parts
 pub mod Pieces
 pub mod Puts

@@ -1,15 +1,15 @@
 -- Eight pairs of ends, filled from the first. Assumes nothing.
-use Prim.Native.Nat.{ℕ, _+_, _<_}
+use Prim.Native.Nat.{ℕ, _+_, _<_, _≤_}
 use native.Mathlib.Omega.{arith}
-use mathlib.Core.Path.{_≡_, sym, ap, _∙_}
+use mathlib.Core.Path.{_≡_, refl, sym, ap, _∙_}
 use mathlib.Core.Bool.{cond}
 use mathlib.Core.Logic.{_≢_, ⊎-elim}
 use mathlib.Core.List.{List}
 use lib.ListN.{length, getD, set}
 use lib.Dec.{ltb}
-use Rattle.std.proofs.shelf.Counted.{fill-by-all}
+use Rattle.std.proofs.shelf.Counted.{fill-by-all, getD-map-counting}
 use Rattle.std.proofs.shelf.Lists.{getD-set-same, getD-set-other}
-use Rattle.std.proofs.shelf.Tests.{cases-eq, cond-true}
+use Rattle.std.proofs.shelf.Tests.{cases-eq, cases-lt, cond-true, cond-false}
 use Rattle.std.proofs.shelf.Tests.{lt-ltb, le-ltb}
 use Rattle.std.proofs.shelf.Ways.{tells}
 use Rattle.routing.specs.declared.ends.Ends.{Ends}
@@ -36,3 +36,13 @@ given-more f k row j h e =
 pub given-all : (f : ℕ → Ends) (k d : ℕ) (row : List Ends) → Given f k row → ((j : ℕ) → j < 8 → ltb j k ≡ ltb j d) → row ≡ eight d f
 given-all f k d row g same =
     fill-by-all (λ j. cond (ltb j d) (f j) no-ends) row 8 no-ends (g .0) (λ j h. g .1 j h ∙ ap (λ b. cond b (f j) no-ends) (same j h))
+
+-- pairs that are the same as far as they count
+pub eight-same : (d : ℕ) (f g : ℕ → Ends) → ((k : ℕ) → k < d → f k ≡ g k) → eight d f ≡ eight d g
+eight-same d f g same =
+    fill-by-all (λ j. cond (ltb j d) (g j) no-ends) (eight d f) 8 no-ends refl
+    (λ k h.
+      getD-map-counting (λ j. cond (ltb j d) (f j) no-ends) 0 8 k k no-ends h (omega arith)
+      ∙ ⊎-elim (λ (l : k < d). ap (λ e. cond (ltb k d) e no-ends) (same k l))
+        (λ (l : d ≤ k). let b = le-ltb k d l in cond-false _ (f k) no-ends b ∙ sym (cond-false _ (g k) no-ends b))
+        (cases-lt k d))

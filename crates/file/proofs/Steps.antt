@@ -15,7 +15,7 @@ use Rattle.routing.specs.declared.ends.Ends.{Ends}
 use Rattle.routing.specs.Fields.{widths-of}
 use Rattle.routing.specs.Lawful.{ends-refusal}
 use Rattle.file.specs.Layout.{rows-at, low-at, decisions-at, file-length}
-use Rattle.file.specs.Stages.{put, row-bytes, plan-fields, plan-length, row-refusal, row-next, row-at, decision-refusal, decision-next, decision-place, turn-refusal, turned, end-refusal, Outcome, granted, refused, judged, changed}
+use Rattle.file.specs.Stages.{put, row-bytes, plan-fields, plan-length, row-refusal, row-next, row-at, decision-refusal, decision-next, decision-place, turn-refusal, turned, end-refusal, Outcome, granted, refused, judged, changed, Planned}
 use Rattle.file.specs.Contents.{blank, rows-bytes}
 use Rattle.file.specs.declared.stage.Plan.{Plan}
 use Rattle.file.specs.declared.stage.RowStage.{RowStage}
@@ -87,3 +87,7 @@ decision-stepped p k s code size bytes out out′ o e h i c z a b =
       b
       ∙ ap (λ t. changed (decision-refusal t code size (length out)) out (put (decision-place t) bytes out)) e
       ∙ ap (λ r. changed r out (put (decision-place (decisions-done p k)) bytes out)) none)
+
+-- the length that a plan gives is that of its file
+pub planned-length : (ws : List ℕ) (n code size : ℕ) (p : Plan) → Planned ws n code size p → plan-length p ≡ file-length (length ws) n size
+planned-length ws n code size p l = ap (λ vs. file-length (length vs) (p .rules) (p .size)) (l .of-widths) ∙ ap (λ m. file-length (length ws) m (p .size)) (l .of-rules) ∙ ap (file-length (length ws) n) (l .of-size)

@@ -7,14 +7,17 @@ use Rattle.std.specs.Iters.{counting}
 use Rattle.std.specs.Joined.{joined}
 use Rattle.std.specs.Options.{mapped}
 use Rattle.std.specs.declared.option.Option.{Option}
-use Rattle.std.specs.declared.option.Option.the-variants.{None}
+use Rattle.std.specs.declared.option.Option.the-variants.{Some, None}
 use Rattle.routing.specs.declared.ends.Ends.{Ends}
 use Rattle.routing.specs.declared.rule.Rule.{Rule}
 use Rattle.routing.specs.Firsts.{first-some}
 use Rattle.routing.specs.Lawful.{ends-refusal}
+use Rattle.routing.specs.Refusals.{told-by}
 use Rattle.routing.specs.Space.{at}
+use Rattle.routing.specs.declared.refusal.Refusal.{Refusal}
+use Rattle.routing.specs.declared.refusal.Layer.the-variants.{File, Writer}
 use Rattle.file.specs.Layout.{part, fields, rules, decisions-at, no-ends, eight, row-of, width-bytes, file-refusal, first-of}
-use Rattle.file.specs.Stages.{row-bytes, head-bytes, start-refusal}
+use Rattle.file.specs.Stages.{row-bytes, head-bytes, room-refusal, start-refusal}
 
 -- a row with no ends
 abbrev pub blank : List Ends
@@ -48,9 +51,14 @@ abbrev pub rows-bytes : ℕ → List (List Ends) → List ℕ
 rows-bytes d rows = joined (row-bytes d) rows
 
 -- the file of a table, by how a decision is written
-abbrev pub file-bytes : {K : Type 0} → (K → List ℕ) → ℕ → List ℕ → List (List Ends) → List K → List ℕ
+unfoldable pub file-bytes : {K : Type 0} → (K → List ℕ) → ℕ → List ℕ → List (List Ends) → List K → List ℕ
 file-bytes written code ws rows decisions =
     (head-bytes (length ws) (length rows) code ++ ws) ++ (rows-bytes (length ws) rows ++ joined written decisions)
+
+-- a reason of the reader, or else one of the writer
+abbrev pub first-told : Option (ℕ × ℕ) → Option (ℕ × ℕ) → Option Refusal
+first-told None o = mapped (told-by Writer) o
+first-told (Some r) o = Some (told-by File r)
 
 -- the first field of the first row whose ends make no interval of it
 abbrev pub rows-refusal : List ℕ → List (List Ends) → Option ℕ
@@ -60,6 +68,10 @@ rows-refusal ws rows = first-some (λ r. ends-refusal ws (getD rows r blank)) (l
 abbrev pub table-refusal : List ℕ → List (List Ends) → ℕ → ℕ → Option (ℕ × ℕ)
 table-refusal ws rows size room =
     first-of (start-refusal ws (length rows) size room) (mapped (λ field. (9, field)) (rows-refusal ws rows))
+
+-- why a file is not written again: it is not lawful, or there is no room for it
+abbrev pub rewrite-refusal : List ℕ → ℕ → ℕ → ℕ → Option Refusal
+rewrite-refusal bs code size room = first-told (file-refusal bs code size) (room-refusal (length bs) room)
 
 -- A file reads as a table: it is lawful, and has these widths, rules and decisions. Pairs past the last field are not kept.
 pub record Reads-as {K : Type 0} (reading : List ℕ → K) (code size : ℕ) (bs ws : List ℕ) (rows : List (List Ends)) (decisions : List K) : Type 0 where

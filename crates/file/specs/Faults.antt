@@ -4,6 +4,11 @@ use Rattle.file.specs.declared.fault.FileFault.{FileFault}
 use Rattle.file.specs.declared.fault.FileFault.the-variants as f
 use Rattle.file.specs.declared.fault.WriteFault.{WriteFault}
 use Rattle.file.specs.declared.fault.WriteFault.the-variants as w
+use Rattle.file.specs.declared.fault.RewriteFault.{RewriteFault}
+use Rattle.file.specs.declared.fault.RewriteFault.the-variants as r
+use Rattle.routing.specs.Refusals.{told-by}
+use Rattle.routing.specs.declared.refusal.Refusal.{Refusal}
+use Rattle.routing.specs.declared.refusal.Layer.the-variants.{File, Writer}
 use Rattle.routing.specs.declared.widths.WidthsFault.{WidthsFault}
 use Rattle.routing.specs.declared.widths.WidthsFault.the-variants as v
 
@@ -31,3 +36,8 @@ write-reason (w.Count done) = (17, done)
 abbrev pub write-of : WidthsFault → WriteFault
 write-of v.Fields = w.Fields
 write-of (v.Width field) = w.Width field
+
+-- what each fault of writing a file again tells
+abbrev pub rewrite-told : RewriteFault → Refusal
+rewrite-told (r.Read fault) = told-by File (file-reason fault)
+rewrite-told (r.Write fault) = told-by Writer (write-reason fault)

@@ -70,7 +70,7 @@ module _ {S T : Type 0} where
   judged None s t = granted t
   judged (Some reason) s t = refused s reason
 
-abbrev pub changed : Option (ℕ × ℕ) → List ℕ → List ℕ → List ℕ
+abbrev pub changed : {R : Type 0} → Option R → List ℕ → List ℕ → List ℕ
 changed None before after = after
 changed (Some reason) before after = before
 

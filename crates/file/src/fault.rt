@@ -2,7 +2,8 @@
 ghost use mathlib.Core.Path.{_≡_};
 ghost use Rattle.routing.specs.Refusals.{told-by};
 ghost use Rattle.routing.specs.declared.refusal.Layer.the-variants.{File as FileLayer, Writer as WriterLayer};
-ghost use Rattle.file.specs.Faults.{file-reason, write-reason};
+ghost use Rattle.file.specs.Faults.{file-reason, write-reason, rewrite-told};
+ghost use Rattle.file.specs.declared.fault.RewriteFault.the-variants.{Read, Write};
 use routing::refusal::Layer;
 use routing::refusal::Refusal;
 use std::fmt;
@@ -113,6 +114,50 @@ pub impl fmt::Display for WriteFault as WriteFaultDisplay {
             WriteFault::Count(done) => write!(f, "a step too many or too early, after {done}"),
             WriteFault::Kind => write!(f, "the decision is of another kind than the file"),
             WriteFault::Ends(field) => write!(f, "the ends at field {field} make no interval of it"),
+        }
+    }
+}
+
+// Why a file is not written again: it was refused as it was read, or as it was written.
+#[derive(Clone, Copy, PartialEq, Eq, Debug)]
+pub enum RewriteFault {
+    Read(FileFault),
+    Write(WriteFault),
+}
+
+impl RewriteFault {
+    // What it tells.
+    pub fn refusal(self) -> Refusal
+        ensures { λ r. ⌜ r ≡ rewrite-told self ⌝ }
+    {
+        match self {
+            RewriteFault::Read(fault) => fault.refusal(),
+            RewriteFault::Write(fault) => fault.refusal(),
+        }
+    }
+}
+
+pub impl From<FileFault> for RewriteFault as ReadToRewrite {
+    ghost converts = { λ f r. r ≡ Read f };
+
+    fn from(value: FileFault) -> RewriteFault {
+        RewriteFault::Read(value)
+    }
+}
+
+pub impl From<WriteFault> for RewriteFault as WriteToRewrite {
+    ghost converts = { λ f r. r ≡ Write f };
+
+    fn from(value: WriteFault) -> RewriteFault {
+        RewriteFault::Write(value)
+    }
+}
+
+pub impl fmt::Display for RewriteFault as RewriteFaultDisplay {
+    fn fmt<W: fmt::Write>(&self, f: &mut fmt::Formatter<W>) -> fmt::Result {
+        match self {
+            RewriteFault::Read(fault) => write!(f, "{fault}"),
+            RewriteFault::Write(fault) => write!(f, "{fault}"),
         }
     }
 }

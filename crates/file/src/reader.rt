@@ -57,6 +57,13 @@ impl<'a, K: Kind> TableFile<'a, K> {
         two_at(self.bytes, 4) as usize
     }
 
+    // A byte for the width of each field.
+    pub fn widths(&self) -> &'a [u8]
+        ensures { λ r. ⌜ now r ≡ width-bytes (now (now (self .entry) .bytes)) ⌝ }
+    {
+        part_of(self.bytes, 16, byte_at(self.bytes, 1) as usize)
+    }
+
     // The width of a field, counted from 0, or 0 where there is none.
     pub fn width(&self, field: usize) -> u8
         ensures { λ r. ⌜ r ≡ getD (width-bytes (now (now (self .entry) .bytes))) field 0 ⌝ }

@@ -8,15 +8,21 @@ ghost use Rattle.std.specs.Joined.{joined};
 ghost use Rattle.std.specs.declared.option.Option.the-variants.{Some, None};
 ghost use Rattle.routing.specs.Fields.{widths-of};
 ghost use Rattle.routing.specs.Lawful.{ends-refusal};
-ghost use Rattle.file.specs.Faults.{write-reason};
+ghost use Rattle.file.specs.Faults.{write-reason, rewrite-told};
 ghost use Rattle.file.specs.Layout.{rows-at, decisions-at, file-length};
 ghost use Rattle.file.specs.Stages.{put, plan-fields, plan-length, turn-told, turned, end-told, granted, changed};
-ghost use Rattle.file.specs.Contents.{blank, rows-bytes, file-bytes, rows-refusal, table-refusal, Reads-as};
+ghost use Rattle.file.specs.Contents.{blank, rows-bytes, file-bytes, rows-refusal, table-refusal, rewrite-refusal, Reads-as};
+use crate::fault::ReadToRewrite;
+use crate::fault::RewriteFault;
 use crate::fault::WriteFault;
+use crate::fault::WriteToRewrite;
+use crate::reader::TableFile;
+use crate::rules::FileRules;
 use crate::rules::Rules;
 use crate::stage::DecisionStage;
 use crate::stage::DecisionStep;
 use crate::stage::EndStep;
+use crate::stage::Plan;
 use crate::stage::RowStage;
 use crate::stage::RowStep;
 use crate::stage::TurnStep;
@@ -78,4 +84,62 @@ fn put_decisions<K: Kind, R: Rules<K>>(start: DecisionStage, rules: &R, out: &mu
         };
     }
     stage.end()
+}
+
+// Writes a file of these widths and rules, with the header, the widths, the rows and the decisions in their places and no other byte
+// changed. Nothing is written where it is refused. What was written reads again as the same widths, rules and decisions.
+pub fn write_table<K: Kind, R: Rules<K>>(widths: &[u8], rules: &R, out: &mut [u8]) -> Result<usize, WriteFault>
+    ensures answer {
+        λ r. ⌜ Cases r
+          (λ n. (table-refusal (now (widths .entry)) (R·Rules .rows (now (rules .entry))) (K·Kind .size) (length (now (out .entry))) ≡ None)
+            × (n ≡ file-length (length (now (widths .entry))) (length (R·Rules .rows (now (rules .entry)))) (K·Kind .size)))
+          (λ e. table-refusal (now (widths .entry)) (R·Rules .rows (now (rules .entry))) (K·Kind .size) (length (now (out .entry))) ≡ Some (write-reason e)) ⌝
+    }
+    ensures after {
+        λ _. ⌜ now (out .exit) ≡ changed (table-refusal (now (widths .entry)) (R·Rules .rows (now (rules .entry))) (K·Kind .size) (length (now (out .entry)))) (now (out .entry))
+          (put 0 (file-bytes (K·Kind .written) (K·Kind .code) (now (widths .entry)) (R·Rules .rows (now (rules .entry))) (R·Rules .decisions (now (rules .entry)))) (now (out .entry))) ⌝
+    }
+    ensures again {
+        λ _. ⌜ (table-refusal (now (widths .entry)) (R·Rules .rows (now (rules .entry))) (K·Kind .size) (length (now (out .entry))) ≡ None →
+          Reads-as (K·Kind .reading) (K·Kind .code) (K·Kind .size)
+            (file-bytes (K·Kind .written) (K·Kind .code) (now (widths .entry)) (R·Rules .rows (now (rules .entry))) (R·Rules .decisions (now (rules .entry))))
+            (now (widths .entry)) (R·Rules .rows (now (rules .entry))) (R·Rules .decisions (now (rules .entry)))) ⌝
+    }
+{
+    let plan = Plan::test::<K>(widths, rules.count(), out.len())?;
+    if let Some(field) = rows_fault(plan.widths, rules) {
+        return Err(WriteFault::Ends(field));
+    }
+    let stage = plan.start(widths, out);
+    let stage = match put_rows(stage, rules, out) {
+        TurnStep::Next(next) => next,
+        TurnStep::Refused(back, fault) => {
+            back.abandon();
+            return Err(fault);
+        }
+    };
+    match put_decisions(stage, rules, out) {
+        EndStep::Done(length) => Ok(length),
+        EndStep::Refused(back, fault) => {
+            back.abandon();
+            Err(fault)
+        }
+    }
+}
+
+// Reads a file and writes it again: an accepted file comes out with the same bytes, and the buffer is untouched behind them. It is
+// refused as the reader refuses it, or else only for lack of room, with the bytes needed and nothing written.
+pub fn rewrite<K: Kind>(bytes: &[u8], out: &mut [u8]) -> Result<usize, RewriteFault>
+    ensures answer {
+        λ r. ⌜ Cases r
+          (λ n. (rewrite-refusal (now (bytes .entry)) code size (length (now (out .entry))) ≡ None) × (n ≡ length (now (bytes .entry))))
+          (λ e. rewrite-refusal (now (bytes .entry)) code size (length (now (out .entry))) ≡ Some (rewrite-told e)) ⌝
+    }
+    ensures after {
+        λ _. ⌜ now (out .exit) ≡ changed (rewrite-refusal (now (bytes .entry)) code size (length (now (out .entry)))) (now (out .entry)) (put 0 (now (bytes .entry)) (now (out .entry))) ⌝
+    }
+{
+    let file = TableFile::<K>::open(bytes)?;
+    let length = write_table(file.widths(), &file, out)?;
+    Ok(length)
 }

@@ -65,6 +65,16 @@ impl Plan {
         Ok(Plan { widths: tested, rules: rules as u16, code: K::kind_code(), size: size as u16 })
     }
 
+    // Writes the header and the widths.
+    pub(crate) fn start(self, widths: &[u8], out: &mut [u8]) -> RowStage
+        requires { ⌜ length (now widths) ≤ 8 ⌝ ∗ ⌜ self .rules ≤ 512 ⌝ ∗ ⌜ 16 + length (now widths) ≤ length (now out) ⌝ }
+        ensures answer { λ r. ⌜ r ≡ record { plan = self; done = 0 } ⌝ }
+        ensures after { λ _. ⌜ now (out .exit) ≡ put 0 (head-bytes (length (now (widths .entry))) (self .rules) (self .code) ++ now (widths .entry)) (now (out .entry)) ⌝ }
+    {
+        put_front(out, widths, self.rules, self.code);
+        RowStage { plan: self, done: 0 }
+    }
+
     pub(crate) fn length(self) -> usize
         ensures { λ r. ⌜ r ≡ plan-length self ⌝ }
     {
@@ -86,8 +96,7 @@ impl RowStage {
         }
     {
         let plan = Plan::test::<K>(widths, rules, out.len())?;
-        put_front(out, widths, plan.rules, plan.code);
-        Ok(RowStage { plan, done: 0 })
+        Ok(plan.start(widths, out))
     }
 
     // Writes the next row.

@@ -58,3 +58,7 @@ module _ (bad : ℕ → Bool) (place : ℕ → ℕ) where
 -- the first that does not pass, where places count from 1
 pub found : (bad : ℕ → Bool) (n k : ℕ) → k < n → first-below bad suc k ≡ None → bad k ≡ true → Some (k + 1) ≡ first-below bad suc n
 found bad n k h e b = ap Some (add-one k) ∙ sym (some-hit (λ j. broken (bad j) (suc j)) n k (suc k) h e (rw b))
+
+-- each passes, so there is none
+pub none-from : (bad : ℕ → Bool) (place : ℕ → ℕ) (n : ℕ) → ((k : ℕ) → k < n → bad k ≡ false) → first-below bad place n ≡ None
+none-from bad place n h = none-all (λ j. broken (bad j) (place j)) n (λ k l. rw (h k l))

@@ -1,17 +1,24 @@
 -- What is known of tested widths. Assumes nothing.
 use Prim.Native.Nat.{ℕ, suc, _<_, _≤_}
 use native.Mathlib.Omega.{arith}
-use mathlib.Core.Path.{_≡_}
+use mathlib.Core.Path.{_≡_, refl}
 use mathlib.Core.Logic.{⊎-elim}
 use mathlib.Core.List.{List}
 use lib.ListN.{length, getD}
-use Rattle.std.specs.declared.option.Option.the-variants.{None}
+use mathlib.Core.Bool.{true, false}
+use Rattle.std.specs.Options.{mapped}
+use Rattle.std.specs.declared.option.Option.{Option}
+use Rattle.std.specs.declared.option.Option.the-variants.{Some, None}
 use Rattle.std.proofs.shelf.Lists.{getD-past}
-use Rattle.std.proofs.shelf.Tests.{cases-lt, or-parts, ltb-false}
+use Rattle.std.proofs.shelf.Tests.{cases-lt, cases-bool, or-parts, ltb-false}
 use Rattle.routing.specs.Packing.{packed, unpacked}
-use Rattle.routing.specs.Lawful.{Tested, width-bad, width-refusal}
+use Rattle.routing.specs.Lawful.{Tested, outside, width-bad, width-refusal, widths-refusal}
 use Rattle.routing.proofs.First.{none-below}
 use Rattle.routing.proofs.Packs.{bytes-again}
+
+mapped-none : (o : Option ℕ) → mapped {U = ℕ × ℕ} (λ field. (8, field)) o ≡ None → o ≡ None
+mapped-none None e = refl
+mapped-none (Some x) e = let z : _≡_ {A = ℕ} 0 1 = cc in absurd (omega arith)
 
 -- widths that pass each test
 pub tested : (ws : List ℕ) → 1 ≤ length ws → length ws ≤ 8 → width-refusal ws ≡ None → Tested ws
@@ -29,3 +36,13 @@ tested-byte ws t k =
 pub unpacked-again : (ws : List ℕ) → Tested ws → unpacked (packed ws) ≡ ws
 unfolding unpacked
 unpacked-again ws t = bytes-again 8 ws (t .1) (λ k h. let f = t .2 k h in (f .0, omega (arith, f .1)))
+
+-- widths that no reason speaks against
+pub widths-settled : (ws : List ℕ) → widths-refusal ws ≡ None → (1 ≤ length ws) × (length ws ≤ 8) × (width-refusal ws ≡ None)
+widths-settled ws e =
+    ⊎-elim
+    (λ (b : outside 1 8 (length ws) ≡ true). let z : _≡_ {A = ℕ} 0 1 = let h = rw b at e in cc in absurd (omega arith))
+    (λ (b : outside 1 8 (length ws) ≡ false).
+      let f = or-parts _ _ b in
+      (ltb-false _ _ (f .0), ltb-false _ _ (f .1), mapped-none (width-refusal ws) (rw b at e)))
+    (cases-bool (outside 1 8 (length ws)))
