@@ -16,4 +16,4 @@ pub enum Class {
     Unnamed(UnnamedClass),
 }
 
-mod codes;
+pub mod codes;

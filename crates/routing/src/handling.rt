@@ -5,7 +5,9 @@ ghost use Rattle.routing.specs.Kinds.{same-handling, handling-bytes, handling-
 use crate::bytes::byte_at;
 use crate::bytes::put_front;
 use crate::class::Class;
+use crate::class::codes::ClassDisplay;
 use crate::kind::Kind;
+use std::fmt;
 
 // As it lies in memory: the class is its bare code, so that no type with an invariant lies in a slice.
 #[derive(Clone, Copy, PartialEq, Eq, Debug)]
@@ -67,5 +69,15 @@ pub impl Kind for Handling as HandlingKind {
             keep: u16::from_be_bytes([byte_at(bytes, 2), byte_at(bytes, 3)]),
             note: u16::from_be_bytes([byte_at(bytes, 4), byte_at(bytes, 5)]),
         }
+    }
+}
+
+pub impl fmt::Display for Handling as HandlingDisplay {
+    fn fmt<W: fmt::Write>(&self, f: &mut fmt::Formatter<W>) -> fmt::Result {
+        let queue = self.queue;
+        let class = self.class();
+        let keep = self.keep;
+        let note = self.note;
+        write!(f, "queue {queue}, class {class}, keep {keep}, note {note}")
     }
 }

@@ -3,6 +3,7 @@ ghost use Rattle.routing.specs.Kinds.{same-queue, queue-bytes, queue-of};
 use crate::bytes::byte_at;
 use crate::bytes::put_front;
 use crate::kind::Kind;
+use std::fmt;
 
 #[derive(Clone, Copy, PartialEq, Eq, Debug)]
 pub struct Queue {
@@ -38,5 +39,12 @@ pub impl Kind for Queue as QueueKind {
 
     fn read(bytes: &[u8]) -> Queue {
         Queue { queue: byte_at(bytes, 0) }
+    }
+}
+
+pub impl fmt::Display for Queue as QueueDisplay {
+    fn fmt<W: fmt::Write>(&self, f: &mut fmt::Formatter<W>) -> fmt::Result {
+        let queue = self.queue;
+        write!(f, "queue {queue}")
     }
 }

@@ -15,4 +15,4 @@ pub struct Refusal {
     pub place: usize,
 }
 
-mod shown;
+pub mod shown;
