@@ -9,6 +9,9 @@ use crate::class::codes::ClassDisplay;
 use crate::kind::Kind;
 use std::fmt;
 
+const CODE: u8 = 2;
+const SIZE: usize = 6;
+
 // As it lies in memory: the class is its bare code, so that no type with an invariant lies in a slice.
 #[derive(Clone, Copy, PartialEq, Eq, Debug)]
 pub struct Handling {
@@ -49,11 +52,11 @@ pub impl Kind for Handling as HandlingKind {
     }
 
     fn kind_code() -> u8 {
-        2
+        CODE
     }
 
     fn decision_size() -> usize {
-        6
+        SIZE
     }
 
     fn write(self, out: &mut [u8]) {

@@ -5,6 +5,9 @@ use crate::bytes::put_front;
 use crate::kind::Kind;
 use std::fmt;
 
+const CODE: u8 = 1;
+const SIZE: usize = 1;
+
 #[derive(Clone, Copy, PartialEq, Eq, Debug)]
 pub struct Queue {
     pub queue: u8,
@@ -26,11 +29,11 @@ pub impl Kind for Queue as QueueKind {
     }
 
     fn kind_code() -> u8 {
-        1
+        CODE
     }
 
     fn decision_size() -> usize {
-        1
+        SIZE
     }
 
     fn write(self, out: &mut [u8]) {
