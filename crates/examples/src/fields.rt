@@ -1,9 +1,9 @@
 // Widths, messages, intervals and classes.
-use routing::class::Class;
+use decision::class::Class;
 use routing::ends::Ends;
-use routing::handling::Handling;
-use routing::handling::HandlingKind;
-use routing::kind::Kind;
+use decision::handling::Handling;
+use decision::handling::HandlingKind;
+use decision::kind::Kind;
 use routing::refusal::Layer;
 use routing::refusal::Refusal;
 use routing::refusal::RefusalDebug;

@@ -1,14 +1,16 @@
 // Files that are read, and each refusal of the reader.
 use file::reader::TableFile;
+use file::rules::FileRules;
+use file::rules::Rules;
 use routing::ends::Ends;
 use routing::ends::EndsDebug;
 use routing::ends::EndsPartialEq;
-use routing::handling::Handling;
-use routing::handling::HandlingKind;
-use routing::queue::Queue;
-use routing::queue::QueueDebug;
-use routing::queue::QueueKind;
-use routing::queue::QueuePartialEq;
+use decision::handling::Handling;
+use decision::handling::HandlingKind;
+use decision::queue::Queue;
+use decision::queue::QueueDebug;
+use decision::queue::QueueKind;
+use decision::queue::QueuePartialEq;
 use std::test::*;
 
 // One field of eight bits; [10, 60] to queue 5, [61, 120] to queue 7.
@@ -48,17 +50,17 @@ fn changed(place: usize, byte: u8, other: usize, another: u8) -> (u8, usize) {
 fn a_lawful_file() -> Result<(), Fail> {
     let file = TableFile::<Queue>::open(&QUEUES)?;
     check_eq(file.fields(), 1)?;
-    check_eq(file.rules(), 2)?;
-    check_eq(file.width(0), 8)?;
-    check_eq(file.row_at(1)[0], Ends { low: 61, high: 120 })?;
-    check_eq(file.decision_at(1), Some(Queue { queue: 7 }))?;
-    check_eq(file.decision_at(2), None).note("there is no third rule")
+    check_eq(file.count(), 2)?;
+    check(file.widths() == &[8u8][0..1])?;
+    check_eq(file.row(1)[0], Ends { low: 61, high: 120 })?;
+    check_eq(file.decision(1), Some(Queue { queue: 7 }))?;
+    check_eq(file.decision(2), None).note("there is no third rule")
 }
 
 #[test]
 fn a_class_without_a_name() -> Result<(), Fail> {
     let file = TableFile::<Handling>::open(&HANDLING)?;
-    let decision = file.decision_at(0).ok_or("no decision")?;
+    let decision = file.decision(0).ok_or("no decision")?;
     check_eq(decision.class().code(), 9)?;
     check_eq(decision.keep, 300)
 }

@@ -1,28 +1,30 @@
 // Files that are written in stages, and each refusal of the writer.
-use file::fault::RewriteFault;
-use file::fault::RewriteFaultDebug;
-use file::fault::WriteFault;
-use file::fault::WriteFaultDebug;
-use file::fault::WriteFaultPartialEq;
+use writer::fault::RewriteFault;
+use writer::fault::RewriteFaultDebug;
+use writer::fault::WriteFault;
+use writer::fault::WriteFaultDebug;
+use writer::fault::WriteFaultPartialEq;
 use file::reader::TableFile;
+use file::rules::FileRules;
 use file::rules::ListRules;
 use file::rules::RuleList;
-use file::stage::DecisionStage;
-use file::stage::DecisionStep;
-use file::stage::EndStep;
-use file::stage::RowStage;
-use file::stage::RowStep;
-use file::stage::TurnStep;
-use file::whole::rewrite;
-use file::whole::write_table;
-use routing::class::Class;
+use file::rules::Rules;
+use writer::stage::DecisionStage;
+use writer::stage::DecisionStep;
+use writer::stage::EndStep;
+use writer::stage::RowStage;
+use writer::stage::RowStep;
+use writer::stage::TurnStep;
+use writer::whole::rewrite;
+use writer::whole::write_table;
+use decision::class::Class;
 use routing::ends::Ends;
-use routing::handling::Handling;
-use routing::handling::HandlingKind;
-use routing::queue::Queue;
-use routing::queue::QueueDebug;
-use routing::queue::QueueKind;
-use routing::queue::QueuePartialEq;
+use decision::handling::Handling;
+use decision::handling::HandlingKind;
+use decision::queue::Queue;
+use decision::queue::QueueDebug;
+use decision::queue::QueueKind;
+use decision::queue::QueuePartialEq;
 use routing::rule::Rule;
 use std::test::*;
 
@@ -179,8 +181,8 @@ fn a_file_of_512_rules() -> Result<(), Fail> {
     check_eq(end(decisions)?, 4625)?;
     check(out[4625] == 9).note("no other byte changes")?;
     let file = TableFile::<Queue>::open(&out[0..4625])?;
-    check_eq(file.rules(), 512)?;
-    check_eq(file.decision_at(511), Some(Queue { queue: 255 }))
+    check_eq(file.count(), 512)?;
+    check_eq(file.decision(511), Some(Queue { queue: 255 }))
 }
 
 #[test]

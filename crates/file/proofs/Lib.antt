@@ -1,11 +1,3 @@
-pub mod Again
-pub mod Back
-pub mod Joins
-pub mod Numbers
 pub mod Parts
-pub mod Pieces
-pub mod Puts
 pub mod Refused
-pub mod Rooms
 pub mod Rows
-pub mod Steps

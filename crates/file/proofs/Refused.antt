@@ -14,7 +14,6 @@ use Rattle.std.specs.Options.{mapped}
 use Rattle.routing.specs.declared.ends.Ends.{Ends}
 use Rattle.routing.specs.Firsts.{first-some}
 use Rattle.routing.specs.Lawful.{widths-refusal, ends-refusal}
-use Rattle.file.specs.Stages.{start-refusal}
 
 module _ (bs : List ℕ) (code size : ℕ) where
   pub by-header : (r : ℕ × ℕ) → Some r ≡ header-refusal bs code → file-refusal bs code size ≡ Some r
@@ -99,14 +98,6 @@ counts-say bs size e =
       decisions = eqb-true _ _ (not-false _ (d .0));
       long = eqb-true _ _ (not-false _ (l .0));
     }
-
--- a start that no reason speaks against
-pub start-settled : (ws : List ℕ) (n size room : ℕ) → start-refusal ws n size room ≡ None → (widths-refusal ws ≡ None) × (n ≤ 512) × (file-length (length ws) n size ≤ room)
-start-settled ws n size room e =
-    let f = first-none _ _ e in
-    let r = settled _ _ _ (f .1) in
-    let l = settled _ _ _ (r .1) in
-    (f .0, ltb-false _ _ (r .0), ltb-false _ _ (l .0))
 
 -- What a lawful file says.
 pub file-says : (bs : List ℕ) (code size : ℕ) → file-refusal bs code size ≡ None → Header bs code × Counts bs size × (widths-refusal (width-bytes bs) ≡ None) × (first-some (row-place bs) (rules bs) ≡ None)

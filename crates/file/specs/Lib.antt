@@ -1,4 +1,3 @@
 pub mod Faults
 pub mod Layout
-pub mod Stages
 pub mod Contents

@@ -12,7 +12,7 @@ ghost use Rattle.file.specs.Faults.{file-reason};
 use crate::fault::FileFault;
 use crate::number::four_at;
 use crate::number::two_at;
-use routing::bytes::byte_at;
+use decision::bytes::byte_at;
 use routing::ends::Ends;
 use routing::widths::Widths;
 use routing::widths::WidthsFault;

@@ -1,9 +1,8 @@
-// Why a file is refused, and why a step of writing one is.
+// Why a file is refused.
 ghost use mathlib.Core.Path.{_≡_};
 ghost use Rattle.routing.specs.Refusals.{told-by};
-ghost use Rattle.routing.specs.declared.refusal.Layer.the-variants.{File as FileLayer, Writer as WriterLayer};
-ghost use Rattle.file.specs.Faults.{file-reason, write-reason, rewrite-told};
-ghost use Rattle.file.specs.declared.fault.RewriteFault.the-variants.{Read, Write};
+ghost use Rattle.routing.specs.declared.refusal.Layer.the-variants.{File as FileLayer};
+ghost use Rattle.file.specs.Faults.{file-reason};
 use routing::refusal::Layer;
 use routing::refusal::Refusal;
 use std::fmt;
@@ -31,25 +30,6 @@ pub enum FileFault {
     Ends(usize),
 }
 
-// Places are fields, counted from 1, or numbers of bytes, rows or decisions.
-#[derive(Clone, Copy, PartialEq, Eq, Debug)]
-pub enum WriteFault {
-    // not 1 to 8 fields
-    Fields,
-    // the width of this field is not 1 to 32
-    Width(u8),
-    // more than 512 rules
-    Rules,
-    // the file needs so many bytes, and the buffer has fewer
-    Room(usize),
-    // a row or a decision too many, or a turn or an end too early, after so many
-    Count(usize),
-    // a decision of another kind than the file was started for
-    Kind,
-    // the ends at this field make no interval of it
-    Ends(u8),
-}
-
 impl FileFault {
     // What it tells.
     pub fn refusal(self) -> Refusal
@@ -70,24 +50,6 @@ impl FileFault {
     }
 }
 
-impl WriteFault {
-    // What it tells.
-    pub fn refusal(self) -> Refusal
-        ensures { λ r. ⌜ r ≡ told-by WriterLayer (write-reason self) ⌝ }
-    {
-        let (number, place) = match self {
-            WriteFault::Fields => (3, 1),
-            WriteFault::Kind => (4, 2),
-            WriteFault::Rules => (5, 4),
-            WriteFault::Width(field) => (8, field as usize),
-            WriteFault::Ends(field) => (9, field as usize),
-            WriteFault::Room(place) => (16, place),
-            WriteFault::Count(place) => (17, place),
-        };
-        Refusal { layer: Layer::Writer, number, place }
-    }
-}
-
 pub impl fmt::Display for FileFault as FileFaultDisplay {
     fn fmt<W: fmt::Write>(&self, f: &mut fmt::Formatter<W>) -> fmt::Result {
         match self {
@@ -100,64 +62,6 @@ pub impl fmt::Display for FileFault as FileFaultDisplay {
             FileFault::Length(length) => write!(f, "the file has {length} bytes, and its counts give another length"),
             FileFault::Width(place) => write!(f, "the width at byte {place} is not 1 to 32"),
             FileFault::Ends(place) => write!(f, "the ends at byte {place} make no interval of their field"),
-        }
-    }
-}
-
-pub impl fmt::Display for WriteFault as WriteFaultDisplay {
-    fn fmt<W: fmt::Write>(&self, f: &mut fmt::Formatter<W>) -> fmt::Result {
-        match self {
-            WriteFault::Fields => write!(f, "there are not 1 to 8 fields"),
-            WriteFault::Width(field) => write!(f, "the width of field {field} is not 1 to 32"),
-            WriteFault::Rules => write!(f, "there are more than 512 rules"),
-            WriteFault::Room(needed) => write!(f, "the file needs {needed} bytes, and the buffer has fewer"),
-            WriteFault::Count(done) => write!(f, "a step too many or too early, after {done}"),
-            WriteFault::Kind => write!(f, "the decision is of another kind than the file"),
-            WriteFault::Ends(field) => write!(f, "the ends at field {field} make no interval of it"),
-        }
-    }
-}
-
-// Why a file is not written again: it was refused as it was read, or as it was written.
-#[derive(Clone, Copy, PartialEq, Eq, Debug)]
-pub enum RewriteFault {
-    Read(FileFault),
-    Write(WriteFault),
-}
-
-impl RewriteFault {
-    // What it tells.
-    pub fn refusal(self) -> Refusal
-        ensures { λ r. ⌜ r ≡ rewrite-told self ⌝ }
-    {
-        match self {
-            RewriteFault::Read(fault) => fault.refusal(),
-            RewriteFault::Write(fault) => fault.refusal(),
-        }
-    }
-}
-
-pub impl From<FileFault> for RewriteFault as ReadToRewrite {
-    ghost converts = { λ f r. r ≡ Read f };
-
-    fn from(value: FileFault) -> RewriteFault {
-        RewriteFault::Read(value)
-    }
-}
-
-pub impl From<WriteFault> for RewriteFault as WriteToRewrite {
-    ghost converts = { λ f r. r ≡ Write f };
-
-    fn from(value: WriteFault) -> RewriteFault {
-        RewriteFault::Write(value)
-    }
-}
-
-pub impl fmt::Display for RewriteFault as RewriteFaultDisplay {
-    fn fmt<W: fmt::Write>(&self, f: &mut fmt::Formatter<W>) -> fmt::Result {
-        match self {
-            RewriteFault::Read(fault) => write!(f, "{fault}"),
-            RewriteFault::Write(fault) => write!(f, "{fault}"),
         }
     }
 }

@@ -1,10 +1,6 @@
-// The file of a routing table: a reader over its bytes, and a writer in stages.
+// The file of a routing table, read where the caller keeps it.
 mod checks;
 pub mod fault;
 mod number;
-mod place;
 pub mod reader;
 pub mod rules;
-pub mod stage;
-pub mod whole;
-pub mod writer;

@@ -1,15 +1,19 @@
-// Lists of rules that can be written to a file.
+// Lists of rules: those of a file, and those that a caller keeps.
 ghost use mathlib.Core.Path.{_≡_};
 ghost use mathlib.Core.List.{List, map};
 ghost use lib.ListN.{length, getD};
 ghost use denote.Ref.{now};
 ghost use Rattle.std.specs.shelf.Maps.{nth};
 ghost use Rattle.routing.specs.declared.ends.Ends.{Ends as Pair};
-ghost use Rattle.file.specs.Layout.{rules};
 ghost use Rattle.file.specs.Contents.{blank, rows-of, decisions-of, row-of-rule, decision-of-rule};
+use crate::checks::row_at;
+use crate::number::decision_place;
+use crate::number::part_of;
+use crate::number::two_at;
 use crate::reader::TableFile;
+use decision::bytes::byte_at;
 use routing::ends::Ends;
-use routing::kind::Kind;
+use decision::kind::Kind;
 use routing::rule::Rule;
 
 // The intervals and the decision of each rule, in order. Rules count from 0 here.
@@ -36,15 +40,25 @@ pub impl<'a, K: Kind> Rules<K> for TableFile<'a, K> as FileRules {
     ghost decisions = { λ f. decisions-of (K·Kind .reading) (K·Kind .size) (now (f .bytes)) };
 
     fn count(&self) -> usize {
-        self.rules()
+        two_at(self.bytes, 4) as usize
     }
 
     fn row(&self, rule: usize) -> [Ends; 8] {
-        self.row_at(rule)
+        let n = two_at(self.bytes, 4) as usize;
+        if rule >= n {
+            return [Ends { low: 0, high: 0 }; 8];
+        }
+        row_at(self.bytes, byte_at(self.bytes, 1) as usize, rule)
     }
 
     fn decision(&self, rule: usize) -> Option<K> {
-        self.decision_at(rule)
+        let d = byte_at(self.bytes, 1) as usize;
+        let n = two_at(self.bytes, 4) as usize;
+        if rule >= n {
+            return None;
+        }
+        let size = K::decision_size();
+        Some(K::read(part_of(self.bytes, decision_place(d, n, rule, size), size)))
     }
 }
 

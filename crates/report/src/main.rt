@@ -3,17 +3,19 @@ ghost use Prim.Native.Nat.{_≤_};
 ghost use lib.ListN.{length};
 ghost use Rattle.std.specs.Results.{Cases};
 use file::fault::FileFaultDisplay;
-use file::fault::RewriteFaultDisplay;
+use writer::fault::RewriteFaultDisplay;
 use file::reader::TableFile;
-use file::whole::rewrite;
-use routing::bytes::byte_at;
-use routing::handling::Handling;
-use routing::handling::HandlingDisplay;
-use routing::handling::HandlingKind;
-use routing::kind::Kind;
-use routing::queue::Queue;
-use routing::queue::QueueDisplay;
-use routing::queue::QueueKind;
+use file::rules::FileRules;
+use file::rules::Rules;
+use writer::whole::rewrite;
+use decision::bytes::byte_at;
+use decision::handling::Handling;
+use decision::handling::HandlingDisplay;
+use decision::handling::HandlingKind;
+use decision::kind::Kind;
+use decision::queue::Queue;
+use decision::queue::QueueDisplay;
+use decision::queue::QueueKind;
 use routing::refusal::Refusal;
 use routing::refusal::shown::RefusalDisplay;
 use std::fmt::Display;
@@ -51,9 +53,8 @@ fn fill<R: Read>(from: &mut R, room: &mut [u8]) -> io::Result<usize>
 
 // The fields with their values.
 fn print_fields<K: Kind>(rt: &LibcRuntime, file: &TableFile<'_, K>) -> io::Result<()> {
-    for k in 0..file.fields() {
-        let width = file.width(k);
-        let most = if width < 32 { (1u64 << width) - 1 } else { 4294967295 };
+    for (k, width) in file.widths().iter().enumerate() {
+        let most = if *width < 32 { (1u64 << *width) - 1 } else { 4294967295 };
         let field = k + 1;
         println!(rt, "field {field}: {width} bits, 0 to {most}")?;
     }
@@ -64,12 +65,12 @@ fn print_fields<K: Kind>(rt: &LibcRuntime, file: &TableFile<'_, K>) -> io::Resul
 fn print_rule<K: Kind + Display>(rt: &LibcRuntime, file: &TableFile<'_, K>, rule: usize) -> io::Result<()> {
     let number = rule.saturating_add(1);
     print!(rt, "rule {number}:")?;
-    for pair in file.row_at(rule).iter().take(file.fields()) {
+    for pair in file.row(rule).iter().take(file.fields()) {
         let low = pair.low;
         let high = pair.high;
         print!(rt, " [{low}, {high}]")?;
     }
-    match file.decision_at(rule) {
+    match file.decision(rule) {
         Some(decision) => println!(rt, " -> {decision}"),
         None => println!(rt, ""),
     }
@@ -89,7 +90,7 @@ fn report<K: Kind + Display>(rt: &LibcRuntime, kind: &str, bytes: &[u8]) -> Resu
             return refuse(rt, fault.refusal());
         }
     };
-    let rules = file.rules();
+    let rules = file.count();
     let fields = file.fields();
     println!(rt, "table of {kind}: {rules} rules, {fields} fields")?;
     print_fields(rt, &file)?;

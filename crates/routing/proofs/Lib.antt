@@ -1,6 +1,5 @@
 pub mod Cells
 pub mod First
-pub mod Fronts
 pub mod Matching
 pub mod Packs
 pub mod Test

@@ -1,4 +1,3 @@
-pub mod Bytes
 pub mod Firsts
 pub mod Packing
 pub mod Rules
@@ -6,6 +5,4 @@ pub mod Lawful
 pub mod Space
 pub mod Fields
 pub mod Refusals
-pub mod Classes
-pub mod Kinds
 pub mod Examples

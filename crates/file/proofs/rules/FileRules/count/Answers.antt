@@ -6,4 +6,4 @@ use Rattle.file.proofs.rules.FileRules.count.Needs as need
 pub returns : need.returns
 returns g c =
     let n = rules (c .args .self .now .bytes .now) in
-    record { of-rows = c .rules .ensures ∙ sym (length-map-counting _ 0 n); of-decisions = c .rules .ensures ∙ sym (length-map-counting _ 0 n) }
+    record { of-rows = c .two-at .ensures ∙ sym (length-map-counting _ 0 n); of-decisions = c .two-at .ensures ∙ sym (length-map-counting _ 0 n) }

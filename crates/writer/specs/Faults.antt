@@ -1,0 +1,31 @@
+-- The number and the place of each fault. Assumes nothing.
+use Prim.Native.Nat.{ℕ}
+use Rattle.file.specs.Faults.{file-reason}
+use Rattle.routing.specs.Refusals.{told-by}
+use Rattle.routing.specs.declared.refusal.Refusal.{Refusal}
+use Rattle.routing.specs.declared.refusal.Layer.the-variants.{File, Writer}
+use Rattle.routing.specs.declared.widths.WidthsFault.{WidthsFault}
+use Rattle.routing.specs.declared.widths.WidthsFault.the-variants as v
+use Rattle.writer.specs.declared.fault.WriteFault.{WriteFault}
+use Rattle.writer.specs.declared.fault.WriteFault.the-variants as w
+use Rattle.writer.specs.declared.fault.RewriteFault.{RewriteFault}
+use Rattle.writer.specs.declared.fault.RewriteFault.the-variants as r
+
+abbrev pub write-reason : WriteFault → ℕ × ℕ
+write-reason w.Fields = (3, 1)
+write-reason w.Kind = (4, 2)
+write-reason w.Rules = (5, 4)
+write-reason (w.Width field) = (8, field)
+write-reason (w.Ends field) = (9, field)
+write-reason (w.Room needed) = (16, needed)
+write-reason (w.Count done) = (17, done)
+
+-- a fault of the widths, as the writer tells it
+abbrev pub write-of : WidthsFault → WriteFault
+write-of v.Fields = w.Fields
+write-of (v.Width field) = w.Width field
+
+-- what each fault of writing a file again tells
+abbrev pub rewrite-told : RewriteFault → Refusal
+rewrite-told (r.Read fault) = told-by File (file-reason fault)
+rewrite-told (r.Write fault) = told-by Writer (write-reason fault)
