@@ -11,7 +11,7 @@ pub fn byte_at(bytes: &[u8], place: usize) -> u8
 }
 
 // Copies bytes to the front of a buffer, as far as it reaches.
-pub fn put_front(bytes: &[u8], out: &mut [u8])
+pub(crate) fn put_front(bytes: &[u8], out: &mut [u8])
     ensures { λ _. ⌜ now (out .exit) ≡ front (now (bytes .entry)) (now (out .entry)) ⌝ }
 {
     let n = bytes.len().min(out.len());

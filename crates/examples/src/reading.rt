@@ -1,4 +1,5 @@
 // Files that are read, and each refusal of the reader.
+use file::fault::FileFaultDebug;
 use file::reader::TableFile;
 use file::rules::FileRules;
 use file::rules::Rules;

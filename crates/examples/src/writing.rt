@@ -4,6 +4,7 @@ use writer::fault::RewriteFaultDebug;
 use writer::fault::WriteFault;
 use writer::fault::WriteFaultDebug;
 use writer::fault::WriteFaultPartialEq;
+use file::fault::FileFaultDebug;
 use file::reader::TableFile;
 use file::rules::FileRules;
 use file::rules::ListRules;

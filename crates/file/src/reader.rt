@@ -1,5 +1,6 @@
 // Reading a file where the caller keeps it.
 ghost use mathlib.Core.Path.{_≡_};
+ghost use Rattle.std.specs.Options.{mapped};
 ghost use Rattle.std.specs.Results.{Cases};
 ghost use Rattle.std.specs.declared.option.Option.the-variants.{Some, None};
 ghost use Rattle.file.specs.Layout.{file-refusal, fields, width-bytes};
@@ -19,6 +20,16 @@ pub struct TableFile<'a, K> {
     kind: PhantomData<K>,
 }
 
+// The first rule that a file for decisions of the kind K breaks.
+fn first_fault<K: Kind>(bytes: &[u8]) -> Option<FileFault>
+    ensures { λ r. ⌜ mapped file-reason r ≡ file-refusal (now (bytes .entry)) code size ⌝ }
+{
+    if let Some(fault) = header_fault(bytes, K::kind_code()) {
+        return Some(fault);
+    }
+    body_fault(bytes, K::decision_size())
+}
+
 impl<'a, K: Kind> TableFile<'a, K> {
     // The file, or the first rule that it breaks.
     pub fn open(bytes: &'a [u8]) -> Result<TableFile<'a, K>, FileFault>
@@ -28,10 +39,7 @@ impl<'a, K: Kind> TableFile<'a, K> {
               (λ e. file-refusal (now (bytes .entry)) code size ≡ Some (file-reason e)) ⌝
         }
     {
-        if let Some(fault) = header_fault(bytes, K::kind_code()) {
-            return Err(fault);
-        }
-        if let Some(fault) = body_fault(bytes, K::decision_size()) {
+        if let Some(fault) = first_fault::<K>(bytes) {
             return Err(fault);
         }
         Ok(TableFile { bytes, kind: PhantomData })

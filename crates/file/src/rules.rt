@@ -40,26 +40,45 @@ pub impl<'a, K: Kind> Rules<K> for TableFile<'a, K> as FileRules {
     ghost decisions = { λ f. decisions-of (K·Kind .reading) (K·Kind .size) (now (f .bytes)) };
 
     fn count(&self) -> usize {
-        two_at(self.bytes, 4) as usize
+        count_of::<K>(self.bytes)
     }
 
     fn row(&self, rule: usize) -> [Ends; 8] {
-        let n = two_at(self.bytes, 4) as usize;
-        if rule >= n {
-            return [Ends { low: 0, high: 0 }; 8];
-        }
-        row_at(self.bytes, byte_at(self.bytes, 1) as usize, rule)
+        row_of(self.bytes, rule)
     }
 
     fn decision(&self, rule: usize) -> Option<K> {
-        let d = byte_at(self.bytes, 1) as usize;
-        let n = two_at(self.bytes, 4) as usize;
-        if rule >= n {
-            return None;
-        }
-        let size = K::decision_size();
-        Some(K::read(part_of(self.bytes, decision_place(d, n, rule, size), size)))
+        decision_of(self.bytes, rule)
     }
+}
+
+fn count_of<K: Kind>(bytes: &[u8]) -> usize
+    ensures of_rows { λ r. ⌜ r ≡ length (rows-of (now (bytes .entry))) ⌝ }
+    ensures of_decisions { λ r. ⌜ r ≡ length (decisions-of reading size (now (bytes .entry))) ⌝ }
+{
+    two_at(bytes, 4) as usize
+}
+
+fn row_of(bytes: &[u8], rule: usize) -> [Ends; 8]
+    ensures { λ r. ⌜ r ≡ getD (rows-of (now (bytes .entry))) rule blank ⌝ }
+{
+    let n = two_at(bytes, 4) as usize;
+    if rule >= n {
+        return [Ends { low: 0, high: 0 }; 8];
+    }
+    row_at(bytes, byte_at(bytes, 1) as usize, rule)
+}
+
+fn decision_of<K: Kind>(bytes: &[u8], rule: usize) -> Option<K>
+    ensures { λ r. ⌜ r ≡ nth (decisions-of reading size (now (bytes .entry))) rule ⌝ }
+{
+    let d = byte_at(bytes, 1) as usize;
+    let n = two_at(bytes, 4) as usize;
+    if rule >= n {
+        return None;
+    }
+    let size = K::decision_size();
+    Some(K::read(part_of(bytes, decision_place(d, n, rule, size), size)))
 }
 
 // Rules that a caller keeps in a row.
@@ -74,14 +93,33 @@ pub impl<'a, K: Kind> Rules<K> for RuleList<'a, K> as ListRules {
     ghost decisions = { λ l. map decision-of-rule (now (l .rules)) };
 
     fn count(&self) -> usize {
-        self.rules.len()
+        count_in(self.rules)
     }
 
     fn row(&self, rule: usize) -> [Ends; 8] {
-        if rule < self.rules.len() { self.rules[rule].ends } else { [Ends { low: 0, high: 0 }; 8] }
+        row_in(self.rules, rule)
     }
 
     fn decision(&self, rule: usize) -> Option<K> {
-        if rule < self.rules.len() { Some(self.rules[rule].decision) } else { None }
+        decision_in(self.rules, rule)
     }
+}
+
+fn count_in<K: Kind>(rules: &[Rule<K>]) -> usize
+    ensures of_rows { λ r. ⌜ r ≡ length (map row-of-rule (now (rules .entry))) ⌝ }
+    ensures of_decisions { λ r. ⌜ r ≡ length (map decision-of-rule (now (rules .entry))) ⌝ }
+{
+    rules.len()
+}
+
+fn row_in<K: Kind>(rules: &[Rule<K>], rule: usize) -> [Ends; 8]
+    ensures { λ r. ⌜ r ≡ getD (map row-of-rule (now (rules .entry))) rule blank ⌝ }
+{
+    if rule < rules.len() { rules[rule].ends } else { [Ends { low: 0, high: 0 }; 8] }
+}
+
+fn decision_in<K: Kind>(rules: &[Rule<K>], rule: usize) -> Option<K>
+    ensures { λ r. ⌜ r ≡ nth (map decision-of-rule (now (rules .entry))) rule ⌝ }
+{
+    if rule < rules.len() { Some(rules[rule].decision) } else { None }
 }

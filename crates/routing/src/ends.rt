@@ -29,7 +29,7 @@ impl Ends {
 }
 
 // Whether a number is a value of a field of that many bits.
-pub fn within(value: u32, width: u8) -> bool
+pub(crate) fn within(value: u32, width: u8) -> bool
     ensures { λ r. ⌜ r ≡ ltb value (2 ^ width) ⌝ }
 {
     width >= 32 || value >> width == 0

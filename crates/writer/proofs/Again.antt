@@ -134,31 +134,31 @@ module _ {K : Type 0} (written : K → List ℕ) (reading : List ℕ → K) (bs 
       in
       rw (start, rows) (first-last (room-refusal (length bs) room))
 
-module _ {K : Type 0} (written : K → List ℕ) (reading : List ℕ → K) (bs fb ws out out′ : List ℕ) (code size : ℕ) (small : Bytes bs)
+module _ {K : Type 0} (written : K → List ℕ) (reading : List ℕ → K) (bs ws out : List ℕ) (code size : ℕ) (small : Bytes bs)
     (again : (xs : List ℕ) → length xs ≡ size → Bytes xs → written (reading xs) ≡ xs)
-    (lawful : file-refusal bs code size ≡ None) (p : fb ≡ bs) (q : ws ≡ width-bytes fb) where
+    (lawful : file-refusal bs code size ≡ None) (q : ws ≡ width-bytes bs) where
 
   -- the reason to refuse a lawful file
-  pub rewrite-reason : rewrite-refusal bs code size (length out) ≡ mapped (told-by Writer) (table-refusal ws (rows-of fb) size (length out))
+  pub rewrite-reason : rewrite-refusal bs code size (length out) ≡ mapped (told-by Writer) (table-refusal ws (rows-of bs) size (length out))
   rewrite-reason =
       let s = file-says bs code size lawful in
       ap (λ o. first-told o (room-refusal (length bs) (length out))) lawful
       ∙ ap (mapped (told-by Writer)) (sym (rewritten written reading bs code size small (s .0) (s .1) again (length out) (s .2) (s .3)))
-      ∙ rw (q, p)
+      ∙ rw q
 
   -- what the buffer then holds
-  pub rewrite-after : out′ ≡ changed (table-refusal ws (rows-of fb) size (length out)) out (put 0 (file-bytes written code ws (rows-of fb) (decisions-of reading size fb)) out) → out′ ≡ changed (rewrite-refusal bs code size (length out)) out (put 0 bs out)
-  rewrite-after e =
+  pub rewrite-after : (out′ : List ℕ) → out′ ≡ changed (table-refusal ws (rows-of bs) size (length out)) out (put 0 (file-bytes written code ws (rows-of bs) (decisions-of reading size bs)) out) → out′ ≡ changed (rewrite-refusal bs code size (length out)) out (put 0 bs out)
+  rewrite-after out′ e =
       let s = file-says bs code size lawful in
-      let same : file-bytes written code ws (rows-of fb) (decisions-of reading size fb) ≡ bs = rw (q, p) (file-again written reading bs code size small (s .0) (s .1) again) in
+      let same : file-bytes written code ws (rows-of bs) (decisions-of reading size bs) ≡ bs = rw q (file-again written reading bs code size small (s .0) (s .1) again) in
       e
-      ∙ ap (λ l. changed (table-refusal ws (rows-of fb) size (length out)) out (put 0 l out)) same
-      ∙ sym (changed-mapped (table-refusal ws (rows-of fb) size (length out)) out (put 0 bs out))
+      ∙ ap (λ l. changed (table-refusal ws (rows-of bs) size (length out)) out (put 0 l out)) same
+      ∙ sym (changed-mapped (table-refusal ws (rows-of bs) size (length out)) out (put 0 bs out))
       ∙ ap (λ o. changed o out (put 0 bs out)) (sym rewrite-reason)
 
   -- and its length
-  pub rewrite-long : file-length (length ws) (length (rows-of fb)) size ≡ length bs
+  pub rewrite-long : file-length (length ws) (length (rows-of bs)) size ≡ length bs
   rewrite-long =
       let s = file-says bs code size lawful in
       let lw : length (width-bytes bs) ≡ fields bs = length-part 16 (fields bs) bs (omega (arith, s .1 .long)) in
-      rw (q, p, lw, length-map-counting (row-of bs) 0 (rules bs)) (sym (s .1 .long))
+      rw (q, lw, length-map-counting (row-of bs) 0 (rules bs)) (sym (s .1 .long))

@@ -9,7 +9,9 @@ ghost use Rattle.std.specs.declared.option.Option.the-variants.{Some, None};
 ghost use Rattle.routing.specs.Fields.{widths-of};
 ghost use Rattle.routing.specs.Lawful.{ends-refusal};
 ghost use Rattle.writer.specs.Faults.{write-reason, rewrite-told};
-ghost use Rattle.file.specs.Layout.{rows-at, decisions-at, file-length};
+ghost use Rattle.file.specs.Layout.{rows-at, decisions-at, file-length, file-refusal};
+ghost use Rattle.routing.specs.Refusals.{told-by};
+ghost use Rattle.routing.specs.declared.refusal.Layer.the-variants.{Writer as WriterLayer};
 ghost use Rattle.writer.specs.Stages.{put, plan-fields, plan-length, turn-told, turned, end-told, granted, changed};
 ghost use Rattle.file.specs.Contents.{blank};
 ghost use Rattle.writer.specs.Tables.{rows-bytes, file-bytes, rows-refusal, table-refusal, rewrite-refusal, Reads-as};
@@ -128,6 +130,22 @@ pub fn write_table<K: Kind, R: Rules<K>>(widths: &[u8], rules: &R, out: &mut [u8
     }
 }
 
+// Writes an accepted file again: only room can lack.
+fn rewrite_file<K: Kind>(file: TableFile<'_, K>, out: &mut [u8]) -> Result<usize, WriteFault>
+    requires lawful { ⌜ file-refusal (now (file .bytes)) code size ≡ None ⌝ }
+    requires bytes { ⌜ ((k : ℕ) → getD (now (file .bytes)) k 0 < 256) ⌝ }
+    ensures answer {
+        λ r. ⌜ Cases r
+          (λ n. (rewrite-refusal (now (file .entry .bytes)) code size (length (now (out .entry))) ≡ None) × (n ≡ length (now (file .entry .bytes))))
+          (λ e. rewrite-refusal (now (file .entry .bytes)) code size (length (now (out .entry))) ≡ Some (told-by WriterLayer (write-reason e))) ⌝
+    }
+    ensures after {
+        λ _. ⌜ now (out .exit) ≡ changed (rewrite-refusal (now (file .entry .bytes)) code size (length (now (out .entry)))) (now (out .entry)) (put 0 (now (file .entry .bytes)) (now (out .entry))) ⌝
+    }
+{
+    write_table(file.widths(), &file, out)
+}
+
 // Reads a file and writes it again: an accepted file comes out with the same bytes, and the buffer is untouched behind them. It is
 // refused as the reader refuses it, or else only for lack of room, with the bytes needed and nothing written.
 pub fn rewrite<K: Kind>(bytes: &[u8], out: &mut [u8]) -> Result<usize, RewriteFault>
@@ -141,6 +159,6 @@ pub fn rewrite<K: Kind>(bytes: &[u8], out: &mut [u8]) -> Result<usize, RewriteFa
     }
 {
     let file = TableFile::<K>::open(bytes)?;
-    let length = write_table(file.widths(), &file, out)?;
+    let length = rewrite_file(file, out)?;
     Ok(length)
 }

@@ -6,14 +6,6 @@ use super::Class;
 use super::UnnamedClass;
 use std::fmt;
 
-impl UnnamedClass {
-    pub fn code(self) -> u8
-        ensures { λ r. ⌜ r ≡ self .code ⌝ }
-    {
-        self.code
-    }
-}
-
 impl Class {
     // The one class that has this code.
     pub fn of(code: u8) -> Class

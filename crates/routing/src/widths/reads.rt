@@ -16,6 +16,9 @@ use crate::refusal::Layer;
 use crate::refusal::Refusal;
 use crate::rule::Message;
 
+// A message has eight places, and a table as many fields at most.
+const PLACES: usize = 8;
+
 impl WidthsFault {
     // What it tells, where this layer refuses.
     pub fn refusal(self, layer: Layer) -> Refusal
@@ -52,6 +55,13 @@ fn pack(widths: &[u8]) -> u64
     u64::from_le_bytes(all)
 }
 
+// Byte k of the number is the width of field k.
+fn width_at(widths: Widths, field: usize) -> u8
+    ensures { λ r. ⌜ r ≡ getD (widths-of widths) field 0 ⌝ }
+{
+    if field < 8 { ((widths.number >> (8 * field)) % 256) as u8 } else { 0 }
+}
+
 impl Widths {
     // The widths of as many fields as there are bytes.
     pub fn test(widths: &[u8]) -> Result<Widths, WidthsFault>
@@ -76,7 +86,7 @@ impl Widths {
     pub fn width(self, field: usize) -> u8
         ensures { λ r. ⌜ r ≡ getD (widths-of self) field 0 ⌝ }
     {
-        if field < 8 { ((self.number >> (8 * field)) % 256) as u8 } else { 0 }
+        width_at(self, field)
     }
 
     // How many fields there are.
@@ -88,7 +98,7 @@ impl Widths {
                 return field;
             }
         }
-        8
+        PLACES // each of them has a width
     }
 
     // The first place of a message, counted from 1, that holds no value of its field, or not 0 past the last field.

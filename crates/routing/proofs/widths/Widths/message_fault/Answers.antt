@@ -1,4 +1,5 @@
 use Prim.Native.Nat.{suc, _^_}
+use native.Mathlib.Omega.{arith}
 use mathlib.Core.Path.{_≡_, sym, ap, _∙_}
 use mathlib.Core.Bool.{true, false, not}
 use lib.Dec.{ltb}
@@ -15,7 +16,7 @@ returns-then-not-within c =
     let bad : value-bad (widths-of (c .args .self)) (c .args .message) k ≡ true =
       ap (λ w. not (ltb v (2 ^ w))) (sym (c .width .ensures)) ∙ ap not (sym (c .if-not-within .ensures tt))
     in
-    found (value-bad (widths-of (c .args .self)) (c .args .message)) 8 k (c .loop-k-test .taken) (c .loop-k .inv) bad
+    found (value-bad (widths-of (c .args .self)) (c .args .message)) 8 k (omega arith) (c .loop-k .inv) bad
 
 pub loop-k-again : need.loop-k-again
 loop-k-again c =
