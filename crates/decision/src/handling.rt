@@ -13,7 +13,7 @@ const CODE: u8 = 2;
 const SIZE: usize = 6;
 
 // As it lies in memory: the class is its bare code, so that no type with an invariant lies in a slice.
-#[derive(Clone, Copy, PartialEq, Eq, Debug)]
+#[derive(Clone, Copy, PartialEq, Eq)]
 pub struct Handling {
     pub queue: u8,
     class: u8,

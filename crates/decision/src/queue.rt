@@ -8,7 +8,7 @@ use std::fmt;
 const CODE: u8 = 1;
 const SIZE: usize = 1;
 
-#[derive(Clone, Copy, PartialEq, Eq, Debug)]
+#[derive(Clone, Copy, PartialEq, Eq)]
 pub struct Queue {
     pub queue: u8,
 }

@@ -4,14 +4,11 @@ use file::reader::TableFile;
 use file::rules::FileRules;
 use file::rules::Rules;
 use routing::ends::Ends;
-use routing::ends::EndsDebug;
 use routing::ends::EndsPartialEq;
 use decision::handling::Handling;
 use decision::handling::HandlingKind;
 use decision::queue::Queue;
-use decision::queue::QueueDebug;
 use decision::queue::QueueKind;
-use decision::queue::QueuePartialEq;
 use std::test::*;
 
 // One field of eight bits; [10, 60] to queue 5, [61, 120] to queue 7.
@@ -47,15 +44,23 @@ fn changed(place: usize, byte: u8, other: usize, another: u8) -> (u8, usize) {
     told(&bytes)
 }
 
+// The queue of a rule, 999 where there is no such rule.
+fn queue_of(file: &TableFile<'_, Queue>, rule: usize) -> u16 {
+    match file.decision(rule) {
+        Some(decision) => u16::from(decision.queue),
+        None => 999,
+    }
+}
+
 #[test]
 fn a_lawful_file() -> Result<(), Fail> {
     let file = TableFile::<Queue>::open(&QUEUES)?;
     check_eq(file.fields(), 1)?;
     check_eq(file.count(), 2)?;
     check(file.widths() == &[8u8][0..1])?;
-    check_eq(file.row(1)[0], Ends { low: 61, high: 120 })?;
-    check_eq(file.decision(1), Some(Queue { queue: 7 }))?;
-    check_eq(file.decision(2), None).note("there is no third rule")
+    check(file.row(1)[0] == Ends { low: 61, high: 120 })?;
+    check_eq(queue_of(&file, 1), 7)?;
+    check_eq(queue_of(&file, 2), 999).note("there is no third rule")
 }
 
 #[test]

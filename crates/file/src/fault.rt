@@ -8,7 +8,7 @@ use routing::refusal::Refusal;
 use std::fmt;
 
 // Places are bytes of the file, counted from 0, or its length.
-#[derive(Clone, Copy, PartialEq, Eq, Debug)]
+#[derive(Clone, Copy, Debug)]
 pub enum FileFault {
     // fewer than 16 bytes: the length
     Short(usize),

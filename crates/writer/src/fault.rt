@@ -13,7 +13,7 @@ use routing::widths::WidthsFault;
 use std::fmt;
 
 // Places are fields, counted from 1, or numbers of bytes, rows or decisions.
-#[derive(Clone, Copy, PartialEq, Eq, Debug)]
+#[derive(Clone, Copy, Debug)]
 pub enum WriteFault {
     // not 1 to 8 fields
     Fields,
