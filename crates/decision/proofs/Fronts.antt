@@ -14,11 +14,11 @@ pub front-copied : (bs out : List ℕ) (n : ℕ) → n ≡ min (length bs) (leng
 front-copied bs out n e =
     ⊎-elim
     (λ (h : length bs < length out).
-      let p : n ≡ length bs = omega arith in
-      rw (p, take-all (length bs) bs (omega arith), take-all (length out) bs (omega arith)))
+    let p : n ≡ length bs = omega arith in
+    rw (p, take-all (length bs) bs (omega arith), take-all (length out) bs (omega arith)))
     (λ (h : length out ≤ length bs).
-      let p : n ≡ length out = omega arith in
-      rw (p, drop-all (length out) out (omega arith), drop-all (length bs) out (omega arith)))
+    let p : n ≡ length out = omega arith in
+    rw (p, drop-all (length out) out (omega arith), drop-all (length bs) out (omega arith)))
     (cases-lt (length bs) (length out))
 
 -- bytes that fill the buffer

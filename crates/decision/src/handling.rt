@@ -10,6 +10,7 @@ use crate::kind::Kind;
 use std::fmt;
 
 const CODE: u8 = 2;
+
 const SIZE: usize = 6;
 
 // As it lies in memory: the class is its bare code, so that no type with an invariant lies in a slice.
@@ -26,7 +27,12 @@ impl Handling {
     pub fn new(queue: u8, class: Class, keep: u16, note: u16) -> Handling
         ensures { λ r. ⌜ r ≡ record { queue = queue; class = class-code class; keep = keep; note = note } ⌝ }
     {
-        Handling { queue, class: class.code(), keep, note }
+        Handling {
+            queue,
+            class: class.code(),
+            keep,
+            note,
+        }
     }
 
     pub fn class(self) -> Class
@@ -62,7 +68,17 @@ pub impl Kind for Handling as HandlingKind {
     fn write(self, out: &mut [u8]) {
         let [keep_high, keep_low] = self.keep.to_be_bytes();
         let [note_high, note_low] = self.note.to_be_bytes();
-        put_front(&[self.queue, self.class, keep_high, keep_low, note_high, note_low], out);
+        put_front(
+            &[
+                self.queue,
+                self.class,
+                keep_high,
+                keep_low,
+                note_high,
+                note_low,
+            ],
+            out,
+        );
     }
 
     fn read(bytes: &[u8]) -> Handling {

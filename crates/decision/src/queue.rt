@@ -6,6 +6,7 @@ use crate::kind::Kind;
 use std::fmt;
 
 const CODE: u8 = 1;
+
 const SIZE: usize = 1;
 
 #[derive(Clone, Copy, PartialEq, Eq)]
@@ -41,7 +42,9 @@ pub impl Kind for Queue as QueueKind {
     }
 
     fn read(bytes: &[u8]) -> Queue {
-        Queue { queue: byte_at(bytes, 0) }
+        Queue {
+            queue: byte_at(bytes, 0),
+        }
     }
 }
 

@@ -1,9 +1,9 @@
 // Widths, messages, intervals and classes.
 use decision::class::Class;
-use routing::ends::Ends;
 use decision::handling::Handling;
 use decision::handling::HandlingKind;
 use decision::kind::Kind;
+use routing::ends::Ends;
 use routing::refusal::Layer;
 use routing::refusal::Refusal;
 use routing::refusal::shown::RefusalDisplay;
@@ -43,9 +43,13 @@ fn widths_are_tested() -> Result<(), Fail> {
 fn values_of_a_field() -> Result<(), Fail> {
     let widths = Widths::test(&[8])?;
     check_eq(widths.fields(), 1)?;
-    check_eq(widths.message_fault([255, 0, 0, 0, 0, 0, 0, 0]), None).note("the greatest value of eight bits")?;
+    check_eq(widths.message_fault([255, 0, 0, 0, 0, 0, 0, 0]), None).note(
+        "the greatest value of eight bits",
+    )?;
     check_eq(widths.message_fault([256, 0, 0, 0, 0, 0, 0, 0]), Some(1)).note("one more")?;
-    check_eq(widths.message_fault([255, 0, 0, 1, 0, 0, 0, 9]), Some(4)).note("not 0 past the last field")
+    check_eq(widths.message_fault([255, 0, 0, 1, 0, 0, 0, 9]), Some(4)).note(
+        "not 0 past the last field",
+    )
 }
 
 #[test]
@@ -62,11 +66,16 @@ fn intervals_of_a_field() -> Result<(), Fail> {
 
 #[test]
 fn both_ends_are_included() -> Result<(), Fail> {
-    let all = Ends { low: 0, high: 4294967295 };
+    let all = Ends {
+        low: 0,
+        high: 4294967295,
+    };
     check(all.holds(0) && all.holds(4294967295))?;
     let some = Ends { low: 10, high: 60 };
     check(some.holds(10) && some.holds(60) && !some.holds(9) && !some.holds(61))?;
-    check(matches(1, &one_field(10, 60), [60, 5, 0, 0, 0, 0, 0, 0])).note("past the last field nothing is looked at")?;
+    check(matches(1, &one_field(10, 60), [60, 5, 0, 0, 0, 0, 0, 0])).note(
+        "past the last field nothing is looked at",
+    )?;
     check(!matches(2, &one_field(10, 60), [60, 5, 0, 0, 0, 0, 0, 0]))
 }
 
@@ -74,14 +83,20 @@ fn both_ends_are_included() -> Result<(), Fail> {
 fn handlings_by_queue_and_class() -> Result<(), Fail> {
     let nine = Handling::new(3, Class::of(9), 30, 1);
     check_eq(nine.class().code(), 9).note("a class without a name keeps its code")?;
-    check(nine.same(Handling::new(3, Class::of(9), 45, 2))).note("keep time and note do not count")?;
+    check(nine.same(Handling::new(3, Class::of(9), 45, 2))).note(
+        "keep time and note do not count",
+    )?;
     check(!nine.same(Handling::new(3, Class::Ordinary, 30, 1))).note("class 9 is not class 0")?;
     check(!nine.same(Handling::new(4, Class::of(9), 30, 1)))
 }
 
 #[test]
 fn the_line_of_a_refusal(rt: LibcRuntime) -> Result<(), Fail> {
-    let refusal = Refusal { layer: Layer::Writer, number: 16, place: 35 };
+    let refusal = Refusal {
+        layer: Layer::Writer,
+        number: 16,
+        place: 35,
+    };
     let line = format!(rt.alloc(), "{refusal}")?;
     check(line.as_str() == "refused W 16 35")
 }

@@ -1,24 +1,88 @@
 // Files that are read, and each refusal of the reader.
+use decision::handling::Handling;
+use decision::handling::HandlingKind;
+use decision::queue::Queue;
+use decision::queue::QueueKind;
 use file::fault::FileFaultDebug;
 use file::reader::TableFile;
 use file::rules::FileRules;
 use file::rules::Rules;
 use routing::ends::Ends;
 use routing::ends::EndsPartialEq;
-use decision::handling::Handling;
-use decision::handling::HandlingKind;
-use decision::queue::Queue;
-use decision::queue::QueueKind;
 use std::test::*;
 
 // One field of eight bits; [10, 60] to queue 5, [61, 120] to queue 7.
 const QUEUES: [u8; 35] = [
-    1, 1, 1, 0, 0, 2, 0, 0, 0, 0, 0, 17, 0, 0, 0, 33, 8, 0, 0, 0, 10, 0, 0, 0, 60, 0, 0, 0, 61, 0, 0, 0, 120, 5, 7,
+    1,
+    1,
+    1,
+    0,
+    0,
+    2,
+    0,
+    0,
+    0,
+    0,
+    0,
+    17,
+    0,
+    0,
+    0,
+    33,
+    8,
+    0,
+    0,
+    0,
+    10,
+    0,
+    0,
+    0,
+    60,
+    0,
+    0,
+    0,
+    61,
+    0,
+    0,
+    0,
+    120,
+    5,
+    7,
 ];
 
 // One field of eight bits; [0, 9] to queue 3, class 9, keep 300, note 1.
 const HANDLING: [u8; 31] = [
-    1, 1, 2, 0, 0, 1, 0, 0, 0, 0, 0, 17, 0, 0, 0, 25, 8, 0, 0, 0, 0, 0, 0, 0, 9, 3, 9, 1, 44, 0, 1,
+    1,
+    1,
+    2,
+    0,
+    0,
+    1,
+    0,
+    0,
+    0,
+    0,
+    0,
+    17,
+    0,
+    0,
+    0,
+    25,
+    8,
+    0,
+    0,
+    0,
+    0,
+    0,
+    0,
+    0,
+    9,
+    3,
+    9,
+    1,
+    44,
+    0,
+    1,
 ];
 
 // The number and the place of the reader's refusal, (0, 0) for none.
@@ -73,7 +137,10 @@ fn a_class_without_a_name() -> Result<(), Fail> {
 
 #[test]
 fn no_rules() -> Result<(), Fail> {
-    check_eq(told(&[1, 1, 1, 0, 0, 0, 0, 0, 0, 0, 0, 17, 0, 0, 0, 17, 32]), (0, 0))
+    check_eq(
+        told(&[1, 1, 1, 0, 0, 0, 0, 0, 0, 0, 0, 17, 0, 0, 0, 17, 32]),
+        (0, 0),
+    )
 }
 
 #[test]

@@ -1,14 +1,22 @@
 // Files that are written in stages, and each refusal of the writer.
-use writer::fault::RewriteFault;
-use writer::fault::RewriteFaultDebug;
-use writer::fault::WriteFault;
-use writer::fault::WriteFaultDebug;
+use decision::class::Class;
+use decision::handling::Handling;
+use decision::handling::HandlingKind;
+use decision::queue::Queue;
+use decision::queue::QueueKind;
 use file::fault::FileFaultDebug;
 use file::reader::TableFile;
 use file::rules::FileRules;
 use file::rules::ListRules;
 use file::rules::RuleList;
 use file::rules::Rules;
+use routing::ends::Ends;
+use routing::rule::Rule;
+use std::test::*;
+use writer::fault::RewriteFault;
+use writer::fault::RewriteFaultDebug;
+use writer::fault::WriteFault;
+use writer::fault::WriteFaultDebug;
 use writer::stage::DecisionStage;
 use writer::stage::DecisionStep;
 use writer::stage::EndStep;
@@ -17,16 +25,9 @@ use writer::stage::RowStep;
 use writer::stage::TurnStep;
 use writer::whole::rewrite;
 use writer::whole::write_table;
-use decision::class::Class;
-use routing::ends::Ends;
-use decision::handling::Handling;
-use decision::handling::HandlingKind;
-use decision::queue::Queue;
-use decision::queue::QueueKind;
-use routing::rule::Rule;
-use std::test::*;
 
 const NONE: Ends = Ends { low: 0, high: 0 };
+
 const FIVE: Queue = Queue { queue: 5 };
 
 fn one_field(low: u32, high: u32) -> [Ends; 8] {
@@ -137,7 +138,9 @@ fn length_told(answer: Result<usize, WriteFault>) -> (u8, usize) {
 fn refusals_of_a_start() -> Result<(), Fail> {
     check_eq(start_told(&[8], 2, 35), (0, 0))?;
     check_eq(start_told(&[], 513, 0), (3, 1)).note("the number of fields goes first")?;
-    check_eq(start_told(&[8, 0], 513, 0), (8, 2)).note("the width goes before the number of rules")?;
+    check_eq(start_told(&[8, 0], 513, 0), (8, 2)).note(
+        "the width goes before the number of rules",
+    )?;
     check_eq(start_told(&[8, 33], 1, 64), (8, 2))?;
     check_eq(start_told(&[8], 513, 0), (5, 4)).note("the number of rules goes before the room")?;
     check_eq(start_told(&[8], 2, 34), (16, 35))
@@ -146,9 +149,28 @@ fn refusals_of_a_start() -> Result<(), Fail> {
 #[test]
 fn refusals_of_a_row() -> Result<(), Fail> {
     let mut out = [0u8; 26];
-    check_eq(row_told(RowStage::start::<Queue>(&[8], 1, &mut out)?, &mut [0u8; 25], 7, 6), (16, 26)).note("the room goes first")?;
-    check_eq(row_told(RowStage::start::<Queue>(&[8], 1, &mut out)?, &mut out, 7, 6), (9, 1))?;
-    check_eq(row_told(RowStage::start::<Queue>(&[8], 1, &mut out)?, &mut out, 0, 256), (9, 1))?;
+    check_eq(
+        row_told(
+            RowStage::start::<Queue>(&[8], 1, &mut out)?,
+            &mut [0u8; 25],
+            7,
+            6,
+        ),
+        (16, 26),
+    ).note("the room goes first")?;
+    check_eq(
+        row_told(RowStage::start::<Queue>(&[8], 1, &mut out)?, &mut out, 7, 6),
+        (9, 1),
+    )?;
+    check_eq(
+        row_told(
+            RowStage::start::<Queue>(&[8], 1, &mut out)?,
+            &mut out,
+            0,
+            256,
+        ),
+        (9, 1),
+    )?;
     let full = row(RowStage::start::<Queue>(&[8], 1, &mut out)?, &mut out, 7, 7)?;
     check_eq(row_told(full, &mut out, 7, 6), (17, 1)).note("a row too many goes before its ends")?;
     match turn(RowStage::start::<Queue>(&[8], 1, &mut out)?) {
@@ -168,7 +190,10 @@ fn refusals_of_a_decision() -> Result<(), Fail> {
     let second = turn(row(RowStage::start::<Queue>(&[8], 1, &mut out)?, &mut out, 7, 7)?)?;
     check_eq(other_kind_told(second, &mut out), (4, 2))?;
     let third = turn(row(RowStage::start::<Queue>(&[8], 1, &mut out)?, &mut out, 7, 7)?)?;
-    check_eq(other_kind_told(decision(third, &mut out, 5)?, &mut out), (17, 1)).note("one too many goes before the kind")?;
+    check_eq(
+        other_kind_told(decision(third, &mut out, 5)?, &mut out),
+        (17, 1),
+    ).note("one too many goes before the kind")?;
     let fourth = turn(row(RowStage::start::<Queue>(&[8], 1, &mut out)?, &mut out, 7, 7)?)?;
     check_eq(length_told(end(fourth)), (17, 0)).note("an end too early")
 }
@@ -194,9 +219,21 @@ fn a_file_of_512_rules() -> Result<(), Fail> {
 
 #[test]
 fn a_whole_table() -> Result<(), Fail> {
-    let rules = [Rule { ends: one_field(10, 60), decision: FIVE }, Rule { ends: one_field(61, 120), decision: Queue { queue: 7 } }];
+    let rules = [
+        Rule {
+            ends: one_field(10, 60),
+            decision: FIVE,
+        },
+        Rule {
+            ends: one_field(61, 120),
+            decision: Queue { queue: 7 },
+        },
+    ];
     let mut out = [0u8; 40];
-    check_eq(write_table(&[8], &RuleList { rules: &rules }, &mut out)?, 35)?;
+    check_eq(
+        write_table(&[8], &RuleList { rules: &rules }, &mut out)?,
+        35,
+    )?;
     check_eq(out[32], 120)?;
     check_eq(out[34], 7)?;
     let mut again = [0u8; 35];
@@ -206,9 +243,24 @@ fn a_whole_table() -> Result<(), Fail> {
 
 #[test]
 fn nothing_is_written_where_it_is_refused() -> Result<(), Fail> {
-    let rules = [Rule { ends: one_field(10, 60), decision: FIVE }, Rule { ends: one_field(61, 60), decision: FIVE }];
+    let rules = [
+        Rule {
+            ends: one_field(10, 60),
+            decision: FIVE,
+        },
+        Rule {
+            ends: one_field(61, 60),
+            decision: FIVE,
+        },
+    ];
     let mut out = [9u8; 35];
-    check_eq(length_told(write_table(&[8], &RuleList { rules: &rules }, &mut out)), (9, 1))?;
-    check_eq(length_told(write_table(&[8], &RuleList { rules: &rules }, &mut out[0..34])), (16, 35)).note("the room goes first")?;
+    check_eq(
+        length_told(write_table(&[8], &RuleList { rules: &rules }, &mut out)),
+        (9, 1),
+    )?;
+    check_eq(
+        length_told(write_table(&[8], &RuleList { rules: &rules }, &mut out[0..34])),
+        (16, 35),
+    ).note("the room goes first")?;
     check(out == [9u8; 35])
 }

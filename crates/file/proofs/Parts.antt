@@ -24,16 +24,16 @@ pub part-bounded : (bs : List ℕ) (at n from to : ℕ) → from ≡ min at (len
 part-bounded bs at n from to f t =
     ⊎-elim
     (λ (h : at < length bs).
-      let p : from ≡ at = omega arith in
-      ⊎-elim
-      (λ (i : at + n < length bs). let q : to - from ≡ n = omega arith in rw (q, p))
-      (λ (i : length bs ≤ at + n).
-        rw p (take-all _ (drop at bs) (omega (arith, length-drop at bs)) ∙ sym (take-all n (drop at bs) (omega (arith, length-drop at bs)))))
-      (cases-lt (at + n) (length bs)))
+    let p : from ≡ at = omega arith in
+    ⊎-elim
+    (λ (i : at + n < length bs). let q : to - from ≡ n = omega arith in rw (q, p))
+    (λ (i : length bs ≤ at + n).
+    rw p (take-all _ (drop at bs) (omega (arith, length-drop at bs)) ∙ sym (take-all n (drop at bs) (omega (arith, length-drop at bs)))))
+    (cases-lt (at + n) (length bs)))
     (λ (h : length bs ≤ at).
-      let p : drop from bs ≡ [] = drop-all from bs (omega arith) in
-      let q : drop at bs ≡ [] = drop-all at bs h in
-      rw (p, q) (take-none (to - from) ∙ sym (take-none n)))
+    let p : drop from bs ≡ [] = drop-all from bs (omega arith) in
+    let q : drop at bs ≡ [] = drop-all at bs h in
+    rw (p, q) (take-none (to - from) ∙ sym (take-none n)))
     (cases-lt at (length bs))
 
 module _ {X : Type 0} (f : ℕ → X) (n r : ℕ) where

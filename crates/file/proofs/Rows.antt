@@ -24,12 +24,12 @@ pub given-more : (f : ℕ → Ends) (k : ℕ) (row : List Ends) (j : ℕ) → k 
 given-more f k row j h e =
     ⊎-elim
     (λ (q : j ≡ k).
-      let t = lt-ltb j (k + 1) (omega arith) in
-      ap (λ i. getD (set row k (f k)) i no-ends) q ∙ getD-set-same row k (f k) no-ends h ∙ ap f (sym q) ∙ sym (cond-true _ _ no-ends t))
+    let t = lt-ltb j (k + 1) (omega arith) in
+    ap (λ i. getD (set row k (f k)) i no-ends) q ∙ getD-set-same row k (f k) no-ends h ∙ ap f (sym q) ∙ sym (cond-true _ _ no-ends t))
     (λ (q : j ≡ k → ⊥).
-      let o : j ≢ k = q in
-      let same : ltb j k ≡ ltb j (k + 1) = grind (arith, tells) in
-      getD-set-other row k j (f k) no-ends o ∙ e ∙ ap (λ b. cond b (f j) no-ends) same)
+    let o : j ≢ k = q in
+    let same : ltb j k ≡ ltb j (k + 1) = grind (arith, tells) in
+    getD-set-other row k j (f k) no-ends o ∙ e ∙ ap (λ b. cond b (f j) no-ends) same)
     (cases-eq j k)
 
 -- all of them
@@ -42,7 +42,7 @@ pub eight-same : (d : ℕ) (f g : ℕ → Ends) → ((k : ℕ) → k < d → f k
 eight-same d f g same =
     fill-by-all (λ j. cond (ltb j d) (g j) no-ends) (eight d f) 8 no-ends refl
     (λ k h.
-      getD-map-counting (λ j. cond (ltb j d) (f j) no-ends) 0 8 k k no-ends h (omega arith)
-      ∙ ⊎-elim (λ (l : k < d). ap (λ e. cond (ltb k d) e no-ends) (same k l))
-        (λ (l : d ≤ k). let b = le-ltb k d l in cond-false _ (f k) no-ends b ∙ sym (cond-false _ (g k) no-ends b))
-        (cases-lt k d))
+    getD-map-counting (λ j. cond (ltb j d) (f j) no-ends) 0 8 k k no-ends h (omega arith)
+    ∙ ⊎-elim (λ (l : k < d). ap (λ e. cond (ltb k d) e no-ends) (same k l))
+    (λ (l : d ≤ k). let b = le-ltb k d l in cond-false _ (f k) no-ends b ∙ sym (cond-false _ (g k) no-ends b))
+    (cases-lt k d))

@@ -21,7 +21,18 @@ use routing::widths::WidthsFault;
 pub fn header_fault(bytes: &[u8], kind: u8) -> Option<FileFault>
     ensures { λ r. ⌜ mapped file-reason r ≡ header-refusal (now (bytes .entry)) kind ⌝ }
 {
-    let [edition, fields, code, zero, high, low, sixth, seventh, rest @ ..] = bytes else {
+    let [
+        edition,
+        fields,
+        code,
+        zero,
+        high,
+        low,
+        sixth,
+        seventh,
+        rest @ ..,
+    ] = bytes
+    else {
         return Some(FileFault::Short(bytes.len()));
     };
     if rest.len() < 8 {
@@ -75,7 +86,10 @@ pub fn pair_at(bytes: &[u8], d: usize, k: usize) -> Ends
     ensures { λ r. ⌜ r ≡ pair (now (bytes .entry)) d k ⌝ }
 {
     let at = 16 + d + 8 * k;
-    Ends { low: four_at(bytes, at), high: four_at(bytes, at + 4) }
+    Ends {
+        low: four_at(bytes, at),
+        high: four_at(bytes, at + 4),
+    }
 }
 
 // The pairs of a rule, counted from 0.

@@ -46,22 +46,41 @@ impl FileFault {
             FileFault::Width(place) => (8, place),
             FileFault::Ends(place) => (9, place),
         };
-        Refusal { layer: Layer::File, number, place }
+        Refusal {
+            layer: Layer::File,
+            number,
+            place,
+        }
     }
 }
 
 pub impl fmt::Display for FileFault as FileFaultDisplay {
     fn fmt<W: fmt::Write>(&self, f: &mut fmt::Formatter<W>) -> fmt::Result {
         match self {
-            FileFault::Short(length) => write!(f, "the file has {length} bytes, and its header alone takes 16"),
-            FileFault::Fixed(place) => write!(f, "byte {place} is not what every file of edition 1 has there"),
+            FileFault::Short(length) => write!(
+                f,
+                "the file has {length} bytes, and its header alone takes 16"
+            ),
+            FileFault::Fixed(place) => write!(
+                f,
+                "byte {place} is not what every file of edition 1 has there"
+            ),
             FileFault::Fields => write!(f, "there are not 1 to 8 fields"),
             FileFault::Kind => write!(f, "the decisions are of another kind"),
             FileFault::Rules => write!(f, "there are more than 512 rules"),
-            FileFault::Offset(place) => write!(f, "the offset at byte {place} is not the one that the counts give"),
-            FileFault::Length(length) => write!(f, "the file has {length} bytes, and its counts give another length"),
+            FileFault::Offset(place) => write!(
+                f,
+                "the offset at byte {place} is not the one that the counts give"
+            ),
+            FileFault::Length(length) => write!(
+                f,
+                "the file has {length} bytes, and its counts give another length"
+            ),
             FileFault::Width(place) => write!(f, "the width at byte {place} is not 1 to 32"),
-            FileFault::Ends(place) => write!(f, "the ends at byte {place} make no interval of their field"),
+            FileFault::Ends(place) => write!(
+                f,
+                "the ends at byte {place} make no interval of their field"
+            ),
         }
     }
 }

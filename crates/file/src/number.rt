@@ -15,7 +15,12 @@ pub fn four_at(bytes: &[u8], at: usize) -> u32
     requires { ⌜ at < 4294967296 ⌝ }
     ensures { λ r. ⌜ r ≡ four (now (bytes .entry)) at ⌝ }
 {
-    u32::from_be_bytes([byte_at(bytes, at), byte_at(bytes, at + 1), byte_at(bytes, at + 2), byte_at(bytes, at + 3)])
+    u32::from_be_bytes([
+        byte_at(bytes, at),
+        byte_at(bytes, at + 1),
+        byte_at(bytes, at + 2),
+        byte_at(bytes, at + 3),
+    ])
 }
 
 // Where a rule's decision begins.

@@ -33,16 +33,17 @@ fn first_fault<K: Kind>(bytes: &[u8]) -> Option<FileFault>
 impl<'a, K: Kind> TableFile<'a, K> {
     // The file, or the first rule that it breaks.
     pub fn open(bytes: &'a [u8]) -> Result<TableFile<'a, K>, FileFault>
-        ensures {
-            λ r. ⌜ Cases r
-              (λ f. (file-refusal (now (bytes .entry)) code size ≡ None) × (now (f .bytes) ≡ now (bytes .entry)))
-              (λ e. file-refusal (now (bytes .entry)) code size ≡ Some (file-reason e)) ⌝
-        }
+        ensures { λ r. ⌜ Cases r
+            (λ f. (file-refusal (now (bytes .entry)) code size ≡ None) × (now (f .bytes) ≡ now (bytes .entry)))
+            (λ e. file-refusal (now (bytes .entry)) code size ≡ Some (file-reason e)) ⌝ }
     {
         if let Some(fault) = first_fault::<K>(bytes) {
             return Err(fault);
         }
-        Ok(TableFile { bytes, kind: PhantomData })
+        Ok(TableFile {
+            bytes,
+            kind: PhantomData,
+        })
     }
 
     // How many fields the table has.

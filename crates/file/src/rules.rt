@@ -12,8 +12,8 @@ use crate::number::part_of;
 use crate::number::two_at;
 use crate::reader::TableFile;
 use decision::bytes::byte_at;
-use routing::ends::Ends;
 use decision::kind::Kind;
+use routing::ends::Ends;
 use routing::rule::Rule;
 
 // The intervals and the decision of each rule, in order. Rules count from 0 here.
@@ -115,11 +115,19 @@ fn count_in<K: Kind>(rules: &[Rule<K>]) -> usize
 fn row_in<K: Kind>(rules: &[Rule<K>], rule: usize) -> [Ends; 8]
     ensures { λ r. ⌜ r ≡ getD (map row-of-rule (now (rules .entry))) rule blank ⌝ }
 {
-    if rule < rules.len() { rules[rule].ends } else { [Ends { low: 0, high: 0 }; 8] }
+    if rule < rules.len() {
+        rules[rule].ends
+    } else {
+        [Ends { low: 0, high: 0 }; 8]
+    }
 }
 
 fn decision_in<K: Kind>(rules: &[Rule<K>], rule: usize) -> Option<K>
     ensures { λ r. ⌜ r ≡ nth (map decision-of-rule (now (rules .entry))) rule ⌝ }
 {
-    if rule < rules.len() { Some(rules[rule].decision) } else { None }
+    if rule < rules.len() {
+        Some(rules[rule].decision)
+    } else {
+        None
+    }
 }

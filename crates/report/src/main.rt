@@ -2,12 +2,6 @@
 ghost use Prim.Native.Nat.{_≤_};
 ghost use lib.ListN.{length};
 ghost use Rattle.std.specs.Results.{Cases};
-use file::fault::FileFaultDisplay;
-use writer::fault::RewriteFaultDisplay;
-use file::reader::TableFile;
-use file::rules::FileRules;
-use file::rules::Rules;
-use writer::whole::rewrite;
 use decision::bytes::byte_at;
 use decision::handling::Handling;
 use decision::handling::HandlingDisplay;
@@ -16,11 +10,17 @@ use decision::kind::Kind;
 use decision::queue::Queue;
 use decision::queue::QueueDisplay;
 use decision::queue::QueueKind;
+use file::fault::FileFaultDisplay;
+use file::reader::TableFile;
+use file::rules::FileRules;
+use file::rules::Rules;
 use routing::refusal::Refusal;
 use routing::refusal::shown::RefusalDisplay;
 use std::fmt::Display;
 use std::io;
 use std::io::Read;
+use writer::fault::RewriteFaultDisplay;
+use writer::whole::rewrite;
 
 // No lawful file is longer than 35,864 bytes.
 const MOST: usize = 40960;
@@ -54,7 +54,11 @@ fn fill<R: Read>(from: &mut R, room: &mut [u8]) -> io::Result<usize>
 // The fields with their values.
 fn print_fields<K: Kind>(rt: &LibcRuntime, file: &TableFile<'_, K>) -> io::Result<()> {
     for (k, width) in file.widths().iter().enumerate() {
-        let most = if *width < 32 { (1u64 << *width) - 1 } else { 4294967295 };
+        let most = if *width < 32 {
+            (1u64 << *width) - 1
+        } else {
+            4294967295
+        };
         let field = k + 1;
         println!(rt, "field {field}: {width} bits, 0 to {most}")?;
     }
@@ -62,7 +66,11 @@ fn print_fields<K: Kind>(rt: &LibcRuntime, file: &TableFile<'_, K>) -> io::Resul
 }
 
 // One rule: its intervals and its decision.
-fn print_rule<K: Kind + Display>(rt: &LibcRuntime, file: &TableFile<'_, K>, rule: usize) -> io::Result<()> {
+fn print_rule<K: Kind + Display>(
+    rt: &LibcRuntime,
+    file: &TableFile<'_, K>,
+    rule: usize,
+) -> io::Result<()> {
     let number = rule.saturating_add(1);
     print!(rt, "rule {number}:")?;
     for pair in file.row(rule).iter().take(file.fields()) {
@@ -100,7 +108,11 @@ fn report<K: Kind + Display>(rt: &LibcRuntime, kind: &str, bytes: &[u8]) -> Resu
     let mut again = [0u8; MOST];
     match rewrite::<K>(bytes, &mut again) {
         Ok(length) => {
-            let verdict = if &again[0..length] == bytes { "the same" } else { "not the same" };
+            let verdict = if &again[0..length] == bytes {
+                "the same"
+            } else {
+                "not the same"
+            };
             println!(rt, "written again: {length} bytes, {verdict}")?;
             Ok(())
         }

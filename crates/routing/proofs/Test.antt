@@ -43,6 +43,6 @@ widths-settled ws e =
     ⊎-elim
     (λ (b : outside 1 8 (length ws) ≡ true). let z : _≡_ {A = ℕ} 0 1 = let h = rw b at e in cc in absurd (omega arith))
     (λ (b : outside 1 8 (length ws) ≡ false).
-      let f = or-parts _ _ b in
-      (ltb-false _ _ (f .0), ltb-false _ _ (f .1), mapped-none (width-refusal ws) (rw b at e)))
+    let f = or-parts _ _ b in
+    (ltb-false _ _ (f .0), ltb-false _ _ (f .1), mapped-none (width-refusal ws) (rw b at e)))
     (cases-bool (outside 1 8 (length ws)))

@@ -21,4 +21,3 @@ pub enum WidthsFault {
 }
 
 mod reads;
-

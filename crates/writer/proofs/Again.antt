@@ -58,10 +58,10 @@ module _ (bs : List ℕ) (code size : ℕ) (small : Bytes bs) (h : Header bs cod
       let q3 : part 12 4 bs ≡ four-bytes (decisions-at d n) = sym (four-again bs 12 small (omega (arith, h .long))) ∙ ap four-bytes (k .decisions) in
       sym
       (part-more 0 4 12 bs
-        ∙ ap (λ x. x ++ part 4 12 bs) q0
-        ∙ ap (λ y. (1 ∷ d ∷ code ∷ 0 ∷ []) ++ y) (part-more 4 4 8 bs)
-        ∙ ap (λ x. (1 ∷ d ∷ code ∷ 0 ∷ []) ++ (x ++ part 8 8 bs)) q1
-        ∙ ap (λ y. (1 ∷ d ∷ code ∷ 0 ∷ []) ++ (((n / 256) ∷ (n % 256) ∷ 0 ∷ 0 ∷ []) ++ y)) (part-more 8 4 4 bs ∙ ap (λ x. x ++ part 12 4 bs) q2 ∙ ap (λ y. four-bytes (rows-at d) ++ y) q3))
+      ∙ ap (λ x. x ++ part 4 12 bs) q0
+      ∙ ap (λ y. (1 ∷ d ∷ code ∷ 0 ∷ []) ++ y) (part-more 4 4 8 bs)
+      ∙ ap (λ x. (1 ∷ d ∷ code ∷ 0 ∷ []) ++ (x ++ part 8 8 bs)) q1
+      ∙ ap (λ y. (1 ∷ d ∷ code ∷ 0 ∷ []) ++ (((n / 256) ∷ (n % 256) ∷ 0 ∷ 0 ∷ []) ++ y)) (part-more 8 4 4 bs ∙ ap (λ x. x ++ part 12 4 bs) q2 ∙ ap (λ y. four-bytes (rows-at d) ++ y) q3))
 
   -- a row
   row-again : (r : ℕ) → r < n → row-bytes d (row-of bs r) ≡ part (low-at d (r * d)) (8 * d) bs
@@ -70,11 +70,11 @@ module _ (bs : List ℕ) (code size : ℕ) (small : Bytes bs) (h : Header bs cod
       let g : ℕ → Ends = λ j. cond (ltb j d) (pair bs d (r * d + j)) no-ends in
       ap (joined ends-bytes) (take-map-counting g 0 8 d (h .few-fields))
       ∙ joined-parts ends-bytes g (low-at d (r * d)) 8 bs d
-        (λ j l.
-          let at : low-at d (r * d + j) ≡ low-at d (r * d) + j * 8 = omega arith in
-          ap ends-bytes (cond-true _ _ no-ends (lt-ltb j d l))
-          ∙ ends-again bs d (r * d + j) small (omega (arith, k .long, mul-add-lt r d j n i l))
-          ∙ ap (λ m. part m 8 bs) at)
+      (λ j l.
+      let at : low-at d (r * d + j) ≡ low-at d (r * d) + j * 8 = omega arith in
+      ap ends-bytes (cond-true _ _ no-ends (lt-ltb j d l))
+      ∙ ends-again bs d (r * d + j) small (omega (arith, k .long, mul-add-lt r d j n i l))
+      ∙ ap (λ m. part m 8 bs) at)
       ∙ ap (λ m. part (low-at d (r * d)) m bs) (mul-comm d 8)
 
   -- all rows
@@ -85,15 +85,14 @@ module _ (bs : List ℕ) (code size : ℕ) (small : Bytes bs) (h : Header bs cod
 
 module _ {K : Type 0} (written : K → List ℕ) (reading : List ℕ → K) (bs : List ℕ) (code size : ℕ) (small : Bytes bs) (h : Header bs code) (k : Counts bs size)
     (again : (xs : List ℕ) → length xs ≡ size → Bytes xs → written (reading xs) ≡ xs) where
-
   -- all decisions
   decisions-again : joined written (decisions-of reading size bs) ≡ part (decisions-at (fields bs) (rules bs)) (rules bs * size) bs
   decisions-again =
       joined-parts written (λ r. reading (decision-bytes bs size r)) (decisions-at (fields bs) (rules bs)) size bs (rules bs)
       (λ r i.
-        again (decision-bytes bs size r)
-        (length-part _ size bs (decision-room (fields bs) (rules bs) size r (length bs) i (omega (arith, k .long))))
-        (part-bytes bs _ size small))
+      again (decision-bytes bs size r)
+      (length-part _ size bs (decision-room (fields bs) (rules bs) size r (length bs) i (omega (arith, k .long))))
+      (part-bytes bs _ size small))
 
   -- the whole file
   pub file-again : file-bytes written code (width-bytes bs) (rows-of bs) (decisions-of reading size bs) ≡ bs
@@ -124,20 +123,19 @@ module _ {K : Type 0} (written : K → List ℕ) (reading : List ℕ → K) (bs 
       let lr : length (rows-of bs) ≡ n = length-map-counting (row-of bs) 0 n in
       let few : ltb 512 n ≡ false = le-ltb 512 n (h .few-rules) in
       let start : start-refusal (width-bytes bs) (length (rows-of bs)) size room ≡ room-refusal (length bs) room =
-        rw (w, lr, few, lw) (ap (λ m. room-refusal m room) (sym (k .long)))
+      rw (w, lr, few, lw) (ap (λ m. room-refusal m room) (sym (k .long)))
       in
       let rows : rows-refusal (width-bytes bs) (rows-of bs) ≡ None =
-        none-all _ (length (rows-of bs))
-        (λ j l.
-          ap (ends-refusal (width-bytes bs)) (getD-map-counting (row-of bs) 0 n j j blank (omega arith) (omega arith))
-          ∙ mapped-none _ (ends-refusal (width-bytes bs) (row-of bs j)) (some-none (row-place bs) n j (omega arith) r))
+      none-all _ (length (rows-of bs))
+      (λ j l.
+      ap (ends-refusal (width-bytes bs)) (getD-map-counting (row-of bs) 0 n j j blank (omega arith) (omega arith))
+      ∙ mapped-none _ (ends-refusal (width-bytes bs) (row-of bs j)) (some-none (row-place bs) n j (omega arith) r))
       in
       rw (start, rows) (first-last (room-refusal (length bs) room))
 
 module _ {K : Type 0} (written : K → List ℕ) (reading : List ℕ → K) (bs ws out : List ℕ) (code size : ℕ) (small : Bytes bs)
     (again : (xs : List ℕ) → length xs ≡ size → Bytes xs → written (reading xs) ≡ xs)
     (lawful : file-refusal bs code size ≡ None) (q : ws ≡ width-bytes bs) where
-
   -- the reason to refuse a lawful file
   pub rewrite-reason : rewrite-refusal bs code size (length out) ≡ mapped (told-by Writer) (table-refusal ws (rows-of bs) size (length out))
   rewrite-reason =

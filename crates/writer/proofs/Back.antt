@@ -58,10 +58,10 @@ pub trimmed-fits : (ws : List ℕ) (es : List Ends) → length ws ≤ 8 → ends
 trimmed-fits ws es l e =
     none-from (ends-bad ws (trimmed (length ws) es)) suc (length ws)
     (λ k h.
-      let same : at (trimmed (length ws) es) k ≡ at es k =
-        getD-map-counting (λ j. cond (ltb j (length ws)) (at es j) no-ends) 0 8 k k no-ends (omega arith) (omega arith) ∙ cond-true _ _ no-ends (lt-ltb k (length ws) h)
-      in
-      ap (λ p. not (fits (getD ws k 0) p)) same ∙ none-below (ends-bad ws es) suc (length ws) k h e)
+    let same : at (trimmed (length ws) es) k ≡ at es k =
+    getD-map-counting (λ j. cond (ltb j (length ws)) (at es j) no-ends) 0 8 k k no-ends (omega arith) (omega arith) ∙ cond-true _ _ no-ends (lt-ltb k (length ws) h)
+    in
+    ap (λ p. not (fits (getD ws k 0) p)) same ∙ none-below (ends-bad ws es) suc (length ws) k h e)
 
 module _ {K : Type 0} (written : K → List ℕ) (reading : List ℕ → K) (code size : ℕ) (ws : List ℕ) (rows : List (List Ends)) (ds : List K)
     (n-few : length rows ≤ 512) (paired : length rows ≡ length ds)
@@ -69,7 +69,6 @@ module _ {K : Type 0} (written : K → List ℕ) (reading : List ℕ → K) (cod
     (eights : (k : ℕ) → k < length rows → length (getD rows k blank) ≡ 8)
     (lawful : (k : ℕ) → k < length rows → ends-refusal ws (getD rows k blank) ≡ None)
     (sized : (x : K) → length (written x) ≡ size) where
-
   some : 1 ≤ length ws
   some = widths-settled ws widths-fine .0
 
@@ -142,13 +141,15 @@ module _ {K : Type 0} (written : K → List ℕ) (reading : List ℕ → K) (cod
       let dec = joined written ds in
       let la : length a ≡ r * (8 * d) = front-length (row-bytes d) rows r (8 * d) (omega arith) row-long in
       let la′ : length a′ ≡ k * 8 = front-length ends-bytes (take d es) k 8 (omega (arith, length-take-le d es (omega (arith, eights r h, few)))) (λ _ _ _. refl) in
-      let m = eight-times r d in
-      ((front ++ a) ++ a′, b′ ++ (b ++ dec),
+      let m = eight-times r d in (
+        (front ++ a) ++ a′,
+        b′ ++ (b ++ dec),
         file-is
-        ∙ ap (λ l. front ++ (l ++ dec)) (joined-split (row-bytes d) rows r blank h)
-        ∙ ap (λ l. front ++ ((a ++ (l ++ b)) ++ dec)) (row-split d es k (omega (arith, eights r h, few)) i)
-        ∙ regroup front a a′ one b′ b dec,
-        length-append (front ++ a) a′ ∙ omega (arith, length-append front a, front-long))
+            ∙ ap (λ l. front ++ (l ++ dec)) (joined-split (row-bytes d) rows r blank h)
+            ∙ ap (λ l. front ++ ((a ++ (l ++ b)) ++ dec)) (row-split d es k (omega (arith, eights r h, few)) i)
+            ∙ regroup front a a′ one b′ b dec,
+        length-append (front ++ a) a′ ∙ omega (arith, length-append front a, front-long),
+      )
 
   -- a lawful row's ends are numbers of four bytes
   small-ends : (r k : ℕ) → r < n → k < d → (at (getD rows r blank) k .low < 4294967296) × (at (getD rows r blank) k .high < 4294967296)
@@ -178,8 +179,8 @@ module _ {K : Type 0} (written : K → List ℕ) (reading : List ℕ → K) (cod
   rows-back =
       ap (λ m. map (row-of file) (counting 0 m)) rules-back
       ∙ sym
-        (fill-by-all (row-of file) (map (trimmed d) rows) n blank (length-map rows (trimmed d))
-          (λ k h. getD-map (trimmed d) rows k blank blank h ∙ sym (row-back k h)))
+      (fill-by-all (row-of file) (map (trimmed d) rows) n blank (length-map rows (trimmed d))
+      (λ k h. getD-map (trimmed d) rows k blank blank h ∙ sym (row-back k h)))
 
   -- each decision's bytes come back
   decision-back : (r : ℕ) (x : K) → r < n → decision-bytes file size r ≡ written (getD ds r x)
@@ -190,7 +191,7 @@ module _ {K : Type 0} (written : K → List ℕ) (reading : List ℕ → K) (cod
       let one = written (getD ds r x) in
       let la : length a ≡ r * size = front-length written ds r size (omega arith) decision-long in
       let place : length ((front ++ all) ++ a) ≡ decisions-at d n + r * size =
-        length-append (front ++ all) a ∙ omega (arith, length-append front all, front-long, rows-long)
+      length-append (front ++ all) a ∙ omega (arith, length-append front all, front-long, rows-long)
       in
       ap (λ m. part (decisions-at m (rules file) + r * size) size file) fields-back
       ∙ ap (λ m. part (decisions-at d m + r * size) size file) rules-back
@@ -227,17 +228,17 @@ module _ {K : Type 0} (written : K → List ℕ) (reading : List ℕ → K) (cod
   rows-lawful =
       ap (first-some (row-place file)) rules-back
       ∙ none-all (row-place file) n
-        (λ r h.
-          let e : ends-refusal (width-bytes file) (row-of file r) ≡ None =
-            ap (λ l. ends-refusal l (row-of file r)) widths-back ∙ ap (ends-refusal ws) (row-back r h) ∙ trimmed-fits ws (getD rows r blank) few (lawful r h)
-          in
-          ap (mapped (λ field. low-at (fields file) (r * fields file + field) - 8)) e)
+      (λ r h.
+      let e : ends-refusal (width-bytes file) (row-of file r) ≡ None =
+      ap (λ l. ends-refusal l (row-of file r)) widths-back ∙ ap (ends-refusal ws) (row-back r h) ∙ trimmed-fits ws (getD rows r blank) few (lawful r h)
+      in
+      ap (mapped (λ field. low-at (fields file) (r * fields file + field) - 8)) e)
 
   pub lawful-back : file-refusal file code size ≡ None
   lawful-back = by-body file code size None (sym header-back) (sym body)
     where
-    body : body-refusal file size ≡ None
-    body = rw (counts-back, widths-back, widths-fine, rows-lawful)
+      body : body-refusal file size ≡ None
+      body = rw (counts-back, widths-back, widths-fine, rows-lawful)
 
   pub reads-back : ((k : ℕ) → k < length ds → (x : K) → reading (written (getD ds k x)) ≡ getD ds k x) → Reads-as reading code size file ws rows ds
   reads-back kept =
@@ -246,8 +247,8 @@ module _ {K : Type 0} (written : K → List ℕ) (reading : List ℕ → K) (cod
         same-widths = widths-back;
         same-rows = rows-back;
         same-decisions =
-          ap (λ m. map (λ r. reading (decision-bytes file size r)) (counting 0 m)) (rules-back ∙ paired)
-          ∙ sym (counted-items (λ r. reading (decision-bytes file size r)) ds (λ k h x. sym (ap reading (decision-back k x (omega arith)) ∙ kept k h x)));
+            ap (λ m. map (λ r. reading (decision-bytes file size r)) (counting 0 m)) (rules-back ∙ paired)
+            ∙ sym (counted-items (λ r. reading (decision-bytes file size r)) ds (λ k h x. sym (ap reading (decision-back k x (omega arith)) ∙ kept k h x)));
       }
 
   -- a plan's stages put the whole file
@@ -257,13 +258,13 @@ module _ {K : Type 0} (written : K → List ℕ) (reading : List ℕ → K) (cod
       let dec = joined written ds in
       let f₁ : o₁ ≡ put 0 front out = e₁ ∙ ap (λ m. put 0 (head-bytes d m (p .code) ++ ws) out) (l .of-rules) ∙ ap (λ m. put 0 (head-bytes d n m ++ ws) out) (l .of-code) in
       let f₂ : o₂ ≡ put (rows-at d) all o₁ =
-        e₂ ∙ ap (λ x. put (rows-at (plan-fields (x .plan))) (rows-bytes (plan-fields (x .plan)) rows) o₁) se ∙ ap (λ vs. put (rows-at (length vs)) (rows-bytes (length vs) rows) o₁) (l .of-widths)
+      e₂ ∙ ap (λ x. put (rows-at (plan-fields (x .plan))) (rows-bytes (plan-fields (x .plan)) rows) o₁) se ∙ ap (λ vs. put (rows-at (length vs)) (rows-bytes (length vs) rows) o₁) (l .of-widths)
       in
       let f₃ : o₃ ≡ put (decisions-at d n) dec o₂ =
-        e₃
-        ∙ ap (λ x. put (decisions-at (plan-fields (x .plan)) (x .plan .rules)) dec o₂) te
-        ∙ ap (λ vs. put (decisions-at (length vs) (p .rules)) dec o₂) (l .of-widths)
-        ∙ ap (λ m. put (decisions-at d m) dec o₂) (l .of-rules)
+      e₃
+      ∙ ap (λ x. put (decisions-at (plan-fields (x .plan)) (x .plan .rules)) dec o₂) te
+      ∙ ap (λ vs. put (decisions-at (length vs) (p .rules)) dec o₂) (l .of-widths)
+      ∙ ap (λ m. put (decisions-at d m) dec o₂) (l .of-rules)
       in
       let long : length (front ++ all) ≡ decisions-at d n = length-append front all ∙ omega (arith, front-long, rows-long) in
       f₃

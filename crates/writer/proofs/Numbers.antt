@@ -28,8 +28,8 @@ four-back n h =
     let top : q₃ % 256 ≡ q₃ = mod-eq-of-lt (div-below n 16777216 256 (omega arith) h) in
     ap (λ q. q * 16777216 + q₂ % 256 * 65536 + q₁ % 256 * 256 + n % 256) top
     ∙ bytes-sum n q₁ q₂ q₃ (n % 256) (q₁ % 256) (q₂ % 256) (div-add-mod' n 256)
-      (ap (λ q. q * 256 + q₁ % 256) (sym (shr-shr n 8 8)) ∙ div-add-mod' q₁ 256)
-      (ap (λ q. q * 256 + q₂ % 256) (sym (shr-shr n 16 8)) ∙ div-add-mod' q₂ 256)
+    (ap (λ q. q * 256 + q₁ % 256) (sym (shr-shr n 8 8)) ∙ div-add-mod' q₁ 256)
+    (ap (λ q. q * 256 + q₂ % 256) (sym (shr-shr n 16 8)) ∙ div-add-mod' q₂ 256)
 
 -- wherever it stands
 pub four-at : (ps qs : List ℕ) (n i : ℕ) → n < 4294967296 → length ps ≡ i → four (ps ++ (four-bytes n ++ qs)) i ≡ n
@@ -51,7 +51,7 @@ pair-at ps qs e bs d k l h s i =
     let high = four-bytes (e .high) in
     let p : four bs at ≡ e .low = ap (λ l. four l at) s ∙ four-at ps (high ++ qs) (e .low) at l i in
     let q : four bs (at + 4) ≡ e .high =
-      ap (λ l. four l (at + 4)) (s ∙ sym (append-assoc ps low (high ++ qs))) ∙ four-at (ps ++ low) qs (e .high) (at + 4) h (omega (arith, length-append ps low))
+    ap (λ l. four l (at + 4)) (s ∙ sym (append-assoc ps low (high ++ qs))) ∙ four-at (ps ++ low) qs (e .high) (at + 4) h (omega (arith, length-append ps low))
     in
     λ j. record { low = p j; high = q j }
 

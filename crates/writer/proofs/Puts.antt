@@ -27,7 +27,7 @@ put-put at to xs ys out s h =
     let lp : length p ≡ to = omega (arith, length-append (take at out) xs, length-take-le at out (omega arith)) in
     let n : to + length ys ≡ at + length (xs ++ ys) = omega (arith, length-append xs ys) in
     let d : drop (to + length ys) (p ++ r) ≡ drop (at + length (xs ++ ys)) out =
-      sym (drop-drop (length ys) to (p ++ r)) ∙ ap (drop (length ys)) (drop-at p r to lp) ∙ drop-drop (length ys) (at + length xs) out ∙ ap (λ m. drop m out) (omega arith)
+    sym (drop-drop (length ys) to (p ++ r)) ∙ ap (drop (length ys)) (drop-at p r to lp) ∙ drop-drop (length ys) (at + length xs) out ∙ ap (λ m. drop m out) (omega arith)
     in
     ap (λ o. take to o ++ (ys ++ drop (to + length ys) o)) (sym (append-assoc (take at out) xs r))
     ∙ ap (λ a. a ++ (ys ++ drop (to + length ys) (p ++ r))) (take-at p r to lp)

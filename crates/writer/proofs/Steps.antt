@@ -60,35 +60,39 @@ end-granted p k h = rw (le-ltb k (p .rules) h)
 pub rows-more : (p : Plan) (rows : List (List Ends)) (es : List Ends) (k : ℕ) (out : List ℕ) → es ≡ getD rows k es → k < length rows → length es ≡ 8 → plan-fields p ≤ 8 → p .rules ≡ length rows → plan-length p ≤ length out → length (rows-bytes (plan-fields p) (take k rows)) ≡ 8 * (k * plan-fields p) → (length (rows-bytes (plan-fields p) (take (k + 1) rows)) ≡ 8 * ((k + 1) * plan-fields p)) × (put (low-at (plan-fields p) (k * plan-fields p)) (row-bytes (plan-fields p) es) (put (rows-at (plan-fields p)) (rows-bytes (plan-fields p) (take k rows)) out) ≡ put (rows-at (plan-fields p)) (rows-bytes (plan-fields p) (take (k + 1) rows)) out)
 rows-more p rows es k out e h l f n room len =
     let d = plan-fields p in
-    let one : length (row-bytes d es) ≡ 8 * d = row-length d es (omega arith) in
-    (length-front (row-bytes d) rows es k e h ∙ omega (arith, add-mul k 1 d),
-      put-piece (row-bytes d) rows es k (rows-at d) (low-at d (k * d)) out e h (omega arith) (omega (arith, row-room d (p .rules) (p .size) k (length out) (omega arith) room)))
+    let one : length (row-bytes d es) ≡ 8 * d = row-length d es (omega arith) in (
+      length-front (row-bytes d) rows es k e h ∙ omega (arith, add-mul k 1 d),
+      put-piece (row-bytes d) rows es k (rows-at d) (low-at d (k * d)) out e h (omega arith) (omega (arith, row-room d (p .rules) (p .size) k (length out) (omega arith) room)),
+    )
 
 -- one decision more behind those that stand
 pub decisions-more : {K : Type 0} (written : K → List ℕ) (p : Plan) (ds : List K) (x : K) (k : ℕ) (out : List ℕ) → x ≡ getD ds k x → k < length ds → length (written x) ≡ p .size → p .rules ≡ length ds → plan-length p ≤ length out → length (joined written (take k ds)) ≡ k * p .size → (length (joined written (take (k + 1) ds)) ≡ (k + 1) * p .size) × (put (decisions-at (plan-fields p) (p .rules) + k * p .size) (written x) (put (decisions-at (plan-fields p) (p .rules)) (joined written (take k ds)) out) ≡ put (decisions-at (plan-fields p) (p .rules)) (joined written (take (k + 1) ds)) out)
 decisions-more written p ds x k out e h l n room len =
     let d = plan-fields p in
-    let at = decisions-at d (p .rules) in
-    (length-front written ds x k e h ∙ omega (arith, add-mul k 1 (p .size)),
-      put-piece written ds x k at (at + k * p .size) out e h (omega arith) (omega (arith, decision-room d (p .rules) (p .size) k (length out) (omega arith) room)))
+    let at = decisions-at d (p .rules) in (
+      length-front written ds x k e h ∙ omega (arith, add-mul k 1 (p .size)),
+      put-piece written ds x k at (at + k * p .size) out e h (omega arith) (omega (arith, decision-room d (p .rules) (p .size) k (length out) (omega arith) room)),
+    )
 
 -- what a row's step comes to where no reason speaks against it
 pub row-stepped : (p : Plan) (k : ℕ) (s : RowStage) (es : List Ends) (out out′ : List ℕ) (o : Outcome RowStage RowStage) → s ≡ rows-done p k → plan-length p ≤ length out → k < p .rules → ends-refusal (widths-of (p .widths)) es ≡ None → o ≡ judged (row-refusal s es (length out)) s (row-next s) → out′ ≡ changed (row-refusal s es (length out)) out (put (row-at s) (row-bytes (plan-fields (s .plan)) es) out) → (o ≡ granted (rows-done p (k + 1))) × (out′ ≡ put (low-at (plan-fields p) (k * plan-fields p)) (row-bytes (plan-fields p) es) out)
 row-stepped p k s es out out′ o e h i l a b =
-    let none = row-granted p k es (length out) h i l in
-    (a ∙ ap (λ t. judged (row-refusal t es (length out)) t (row-next t)) e ∙ ap (λ r. judged r (rows-done p k) (rows-done p (k + 1))) none,
+    let none = row-granted p k es (length out) h i l in (
+      a ∙ ap (λ t. judged (row-refusal t es (length out)) t (row-next t)) e ∙ ap (λ r. judged r (rows-done p k) (rows-done p (k + 1))) none,
       b
-      ∙ ap (λ t. changed (row-refusal t es (length out)) out (put (row-at t) (row-bytes (plan-fields (t .plan)) es) out)) e
-      ∙ ap (λ r. changed r out (put (low-at (plan-fields p) (k * plan-fields p)) (row-bytes (plan-fields p) es) out)) none)
+          ∙ ap (λ t. changed (row-refusal t es (length out)) out (put (row-at t) (row-bytes (plan-fields (t .plan)) es) out)) e
+          ∙ ap (λ r. changed r out (put (low-at (plan-fields p) (k * plan-fields p)) (row-bytes (plan-fields p) es) out)) none,
+    )
 
 -- and a decision's step
 pub decision-stepped : (p : Plan) (k : ℕ) (s : DecisionStage) (code size : ℕ) (bytes out out′ : List ℕ) (o : Outcome DecisionStage DecisionStage) → s ≡ decisions-done p k → plan-length p ≤ length out → k < p .rules → code ≡ p .code → size ≡ p .size → o ≡ judged (decision-refusal s code size (length out)) s (decision-next s) → out′ ≡ changed (decision-refusal s code size (length out)) out (put (decision-place s) bytes out) → (o ≡ granted (decisions-done p (k + 1))) × (out′ ≡ put (decisions-at (plan-fields p) (p .rules) + k * p .size) bytes out)
 decision-stepped p k s code size bytes out out′ o e h i c z a b =
-    let none = decision-granted p k code size (length out) h i c z in
-    (a ∙ ap (λ t. judged (decision-refusal t code size (length out)) t (decision-next t)) e ∙ ap (λ r. judged r (decisions-done p k) (decisions-done p (k + 1))) none,
+    let none = decision-granted p k code size (length out) h i c z in (
+      a ∙ ap (λ t. judged (decision-refusal t code size (length out)) t (decision-next t)) e ∙ ap (λ r. judged r (decisions-done p k) (decisions-done p (k + 1))) none,
       b
-      ∙ ap (λ t. changed (decision-refusal t code size (length out)) out (put (decision-place t) bytes out)) e
-      ∙ ap (λ r. changed r out (put (decision-place (decisions-done p k)) bytes out)) none)
+          ∙ ap (λ t. changed (decision-refusal t code size (length out)) out (put (decision-place t) bytes out)) e
+          ∙ ap (λ r. changed r out (put (decision-place (decisions-done p k)) bytes out)) none,
+    )
 
 -- the length that a plan gives is that of its file
 pub planned-length : (ws : List ℕ) (n code size : ℕ) (p : Plan) → Planned ws n code size p → plan-length p ≡ file-length (length ws) n size

@@ -45,7 +45,11 @@ impl WriteFault {
             WriteFault::Room(place) => (16, place),
             WriteFault::Count(place) => (17, place),
         };
-        Refusal { layer: Layer::Writer, number, place }
+        Refusal {
+            layer: Layer::Writer,
+            number,
+            place,
+        }
     }
 }
 
@@ -55,10 +59,16 @@ pub impl fmt::Display for WriteFault as WriteFaultDisplay {
             WriteFault::Fields => write!(f, "there are not 1 to 8 fields"),
             WriteFault::Width(field) => write!(f, "the width of field {field} is not 1 to 32"),
             WriteFault::Rules => write!(f, "there are more than 512 rules"),
-            WriteFault::Room(needed) => write!(f, "the file needs {needed} bytes, and the buffer has fewer"),
+            WriteFault::Room(needed) => write!(
+                f,
+                "the file needs {needed} bytes, and the buffer has fewer"
+            ),
             WriteFault::Count(done) => write!(f, "a step too many or too early, after {done}"),
             WriteFault::Kind => write!(f, "the decision is of another kind than the file"),
-            WriteFault::Ends(field) => write!(f, "the ends at field {field} make no interval of it"),
+            WriteFault::Ends(field) => write!(
+                f,
+                "the ends at field {field} make no interval of it"
+            ),
         }
     }
 }

@@ -5,8 +5,8 @@ ghost use Prim.Native.Nat.{_+_, _*_, _≤_, _<_};
 ghost use lib.ListN.{length};
 ghost use Rattle.file.specs.Layout.{four-bytes};
 ghost use Rattle.writer.specs.Stages.{put, ends-bytes, row-bytes, head-bytes};
-use routing::ends::Ends;
 use decision::kind::Kind;
+use routing::ends::Ends;
 
 fn put_bytes(out: &mut [u8], at: usize, bytes: &[u8])
     requires { ⌜ at + length (now bytes) ≤ length (now out) ⌝ }
@@ -41,7 +41,24 @@ fn head(fields: u8, rules: u16, code: u8) -> [u8; 16]
     let d = fields as u32;
     let [a, b, c, e] = (16 + d).to_be_bytes();
     let [f, g, h, i] = (16 + d + 8 * (d * rules as u32)).to_be_bytes();
-    [1, fields, code, 0, (rules / 256) as u8, (rules % 256) as u8, 0, 0, a, b, c, e, f, g, h, i]
+    [
+        1,
+        fields,
+        code,
+        0,
+        (rules / 256) as u8,
+        (rules % 256) as u8,
+        0,
+        0,
+        a,
+        b,
+        c,
+        e,
+        f,
+        g,
+        h,
+        i,
+    ]
 }
 
 // The header and the widths.

@@ -19,9 +19,6 @@ use crate::fault::ReadToRewrite;
 use crate::fault::RewriteFault;
 use crate::fault::WriteFault;
 use crate::fault::WriteToRewrite;
-use file::reader::TableFile;
-use file::rules::FileRules;
-use file::rules::Rules;
 use crate::stage::DecisionStage;
 use crate::stage::DecisionStep;
 use crate::stage::EndStep;
@@ -30,6 +27,9 @@ use crate::stage::RowStage;
 use crate::stage::RowStep;
 use crate::stage::TurnStep;
 use decision::kind::Kind;
+use file::reader::TableFile;
+use file::rules::FileRules;
+use file::rules::Rules;
 use routing::widths::Widths;
 
 // The first field of the first rule whose ends make no interval of it.
@@ -71,9 +71,7 @@ fn put_decisions<K: Kind, R: Rules<K>>(start: DecisionStage, rules: &R, out: &mu
     requires kind { ⌜ start .plan .code ≡ K·Kind .code ⌝ ∗ ⌜ start .plan .size ≡ K·Kind .size ⌝ }
     requires room { ⌜ plan-length (start .plan) ≤ length (now out) ⌝ }
     ensures answer { λ r. ⌜ end-told r ≡ granted (plan-length (start .plan)) ⌝ }
-    ensures after {
-        λ _. ⌜ now (out .exit) ≡ put (decisions-at (plan-fields (start .plan)) (start .plan .rules)) (joined (K·Kind .written) (R·Rules .decisions (now (rules .entry)))) (now (out .entry)) ⌝
-    }
+    ensures after { λ _. ⌜ now (out .exit) ≡ put (decisions-at (plan-fields (start .plan)) (start .plan .rules)) (joined (K·Kind .written) (R·Rules .decisions (now (rules .entry)))) (now (out .entry)) ⌝ }
     ensures kept { λ _. ⌜ ((k : ℕ) → k < length (R·Rules .decisions (now (rules .entry))) → (x : K) → K·Kind .reading (K·Kind .written (getD (R·Rules .decisions (now (rules .entry))) k x)) ≡ getD (R·Rules .decisions (now (rules .entry))) k x) ⌝ }
 {
     let mut stage = start;
@@ -91,23 +89,21 @@ fn put_decisions<K: Kind, R: Rules<K>>(start: DecisionStage, rules: &R, out: &mu
 
 // Writes a file of these widths and rules, with the header, the widths, the rows and the decisions in their places and no other byte
 // changed. Nothing is written where it is refused. What was written reads again as the same widths, rules and decisions.
-pub fn write_table<K: Kind, R: Rules<K>>(widths: &[u8], rules: &R, out: &mut [u8]) -> Result<usize, WriteFault>
-    ensures answer {
-        λ r. ⌜ Cases r
-          (λ n. (table-refusal (now (widths .entry)) (R·Rules .rows (now (rules .entry))) (K·Kind .size) (length (now (out .entry))) ≡ None)
-            × (n ≡ file-length (length (now (widths .entry))) (length (R·Rules .rows (now (rules .entry)))) (K·Kind .size)))
-          (λ e. table-refusal (now (widths .entry)) (R·Rules .rows (now (rules .entry))) (K·Kind .size) (length (now (out .entry))) ≡ Some (write-reason e)) ⌝
-    }
-    ensures after {
-        λ _. ⌜ now (out .exit) ≡ changed (table-refusal (now (widths .entry)) (R·Rules .rows (now (rules .entry))) (K·Kind .size) (length (now (out .entry)))) (now (out .entry))
-          (put 0 (file-bytes (K·Kind .written) (K·Kind .code) (now (widths .entry)) (R·Rules .rows (now (rules .entry))) (R·Rules .decisions (now (rules .entry)))) (now (out .entry))) ⌝
-    }
-    ensures again {
-        λ _. ⌜ (table-refusal (now (widths .entry)) (R·Rules .rows (now (rules .entry))) (K·Kind .size) (length (now (out .entry))) ≡ None →
-          Reads-as (K·Kind .reading) (K·Kind .code) (K·Kind .size)
-            (file-bytes (K·Kind .written) (K·Kind .code) (now (widths .entry)) (R·Rules .rows (now (rules .entry))) (R·Rules .decisions (now (rules .entry))))
-            (now (widths .entry)) (R·Rules .rows (now (rules .entry))) (R·Rules .decisions (now (rules .entry)))) ⌝
-    }
+pub fn write_table<K: Kind, R: Rules<K>>(
+    widths: &[u8],
+    rules: &R,
+    out: &mut [u8],
+) -> Result<usize, WriteFault>
+    ensures answer { λ r. ⌜ Cases r
+        (λ n. (table-refusal (now (widths .entry)) (R·Rules .rows (now (rules .entry))) (K·Kind .size) (length (now (out .entry))) ≡ None)
+        × (n ≡ file-length (length (now (widths .entry))) (length (R·Rules .rows (now (rules .entry)))) (K·Kind .size)))
+        (λ e. table-refusal (now (widths .entry)) (R·Rules .rows (now (rules .entry))) (K·Kind .size) (length (now (out .entry))) ≡ Some (write-reason e)) ⌝ }
+    ensures after { λ _. ⌜ now (out .exit) ≡ changed (table-refusal (now (widths .entry)) (R·Rules .rows (now (rules .entry))) (K·Kind .size) (length (now (out .entry)))) (now (out .entry))
+        (put 0 (file-bytes (K·Kind .written) (K·Kind .code) (now (widths .entry)) (R·Rules .rows (now (rules .entry))) (R·Rules .decisions (now (rules .entry)))) (now (out .entry))) ⌝ }
+    ensures again { λ _. ⌜ (table-refusal (now (widths .entry)) (R·Rules .rows (now (rules .entry))) (K·Kind .size) (length (now (out .entry))) ≡ None →
+        Reads-as (K·Kind .reading) (K·Kind .code) (K·Kind .size)
+        (file-bytes (K·Kind .written) (K·Kind .code) (now (widths .entry)) (R·Rules .rows (now (rules .entry))) (R·Rules .decisions (now (rules .entry))))
+        (now (widths .entry)) (R·Rules .rows (now (rules .entry))) (R·Rules .decisions (now (rules .entry)))) ⌝ }
 {
     let plan = Plan::test::<K>(widths, rules.count(), out.len())?;
     if let Some(field) = rows_fault(plan.widths, rules) {
@@ -134,14 +130,10 @@ pub fn write_table<K: Kind, R: Rules<K>>(widths: &[u8], rules: &R, out: &mut [u8
 fn rewrite_file<K: Kind>(file: TableFile<'_, K>, out: &mut [u8]) -> Result<usize, WriteFault>
     requires lawful { ⌜ file-refusal (now (file .bytes)) code size ≡ None ⌝ }
     requires bytes { ⌜ ((k : ℕ) → getD (now (file .bytes)) k 0 < 256) ⌝ }
-    ensures answer {
-        λ r. ⌜ Cases r
-          (λ n. (rewrite-refusal (now (file .entry .bytes)) code size (length (now (out .entry))) ≡ None) × (n ≡ length (now (file .entry .bytes))))
-          (λ e. rewrite-refusal (now (file .entry .bytes)) code size (length (now (out .entry))) ≡ Some (told-by WriterLayer (write-reason e))) ⌝
-    }
-    ensures after {
-        λ _. ⌜ now (out .exit) ≡ changed (rewrite-refusal (now (file .entry .bytes)) code size (length (now (out .entry)))) (now (out .entry)) (put 0 (now (file .entry .bytes)) (now (out .entry))) ⌝
-    }
+    ensures answer { λ r. ⌜ Cases r
+        (λ n. (rewrite-refusal (now (file .entry .bytes)) code size (length (now (out .entry))) ≡ None) × (n ≡ length (now (file .entry .bytes))))
+        (λ e. rewrite-refusal (now (file .entry .bytes)) code size (length (now (out .entry))) ≡ Some (told-by WriterLayer (write-reason e))) ⌝ }
+    ensures after { λ _. ⌜ now (out .exit) ≡ changed (rewrite-refusal (now (file .entry .bytes)) code size (length (now (out .entry)))) (now (out .entry)) (put 0 (now (file .entry .bytes)) (now (out .entry))) ⌝ }
 {
     write_table(file.widths(), &file, out)
 }
@@ -149,14 +141,10 @@ fn rewrite_file<K: Kind>(file: TableFile<'_, K>, out: &mut [u8]) -> Result<usize
 // Reads a file and writes it again: an accepted file comes out with the same bytes, and the buffer is untouched behind them. It is
 // refused as the reader refuses it, or else only for lack of room, with the bytes needed and nothing written.
 pub fn rewrite<K: Kind>(bytes: &[u8], out: &mut [u8]) -> Result<usize, RewriteFault>
-    ensures answer {
-        λ r. ⌜ Cases r
-          (λ n. (rewrite-refusal (now (bytes .entry)) code size (length (now (out .entry))) ≡ None) × (n ≡ length (now (bytes .entry))))
-          (λ e. rewrite-refusal (now (bytes .entry)) code size (length (now (out .entry))) ≡ Some (rewrite-told e)) ⌝
-    }
-    ensures after {
-        λ _. ⌜ now (out .exit) ≡ changed (rewrite-refusal (now (bytes .entry)) code size (length (now (out .entry)))) (now (out .entry)) (put 0 (now (bytes .entry)) (now (out .entry))) ⌝
-    }
+    ensures answer { λ r. ⌜ Cases r
+        (λ n. (rewrite-refusal (now (bytes .entry)) code size (length (now (out .entry))) ≡ None) × (n ≡ length (now (bytes .entry))))
+        (λ e. rewrite-refusal (now (bytes .entry)) code size (length (now (out .entry))) ≡ Some (rewrite-told e)) ⌝ }
+    ensures after { λ _. ⌜ now (out .exit) ≡ changed (rewrite-refusal (now (bytes .entry)) code size (length (now (out .entry)))) (now (out .entry)) (put 0 (now (bytes .entry)) (now (out .entry))) ⌝ }
 {
     let file = TableFile::<K>::open(bytes)?;
     let length = rewrite_file(file, out)?;

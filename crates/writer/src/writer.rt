@@ -21,8 +21,8 @@ use crate::stage::Plan;
 use crate::stage::RowStage;
 use crate::stage::RowStep;
 use crate::stage::TurnStep;
-use routing::ends::Ends;
 use decision::kind::Kind;
+use routing::ends::Ends;
 use routing::widths::Widths;
 
 // The bytes of a file.
@@ -35,12 +35,14 @@ fn length_of(d: usize, n: usize, size: usize) -> usize
 
 impl Plan {
     // What a start tests, for a buffer of a length.
-    pub(crate) fn test<K: Kind>(widths: &[u8], rules: usize, room: usize) -> Result<Plan, WriteFault>
-        ensures {
-            λ r. ⌜ Cases r
-              (λ p. (start-refusal (now (widths .entry)) rules size room ≡ None) × Planned (now (widths .entry)) rules code size p)
-              (λ e. start-refusal (now (widths .entry)) rules size room ≡ Some (write-reason e)) ⌝
-        }
+    pub(crate) fn test<K: Kind>(
+        widths: &[u8],
+        rules: usize,
+        room: usize,
+    ) -> Result<Plan, WriteFault>
+        ensures { λ r. ⌜ Cases r
+            (λ p. (start-refusal (now (widths .entry)) rules size room ≡ None) × Planned (now (widths .entry)) rules code size p)
+            (λ e. start-refusal (now (widths .entry)) rules size room ≡ Some (write-reason e)) ⌝ }
     {
         let tested = Widths::test(widths)?;
         if rules > 512 {
@@ -51,7 +53,12 @@ impl Plan {
         if room < needed {
             return Err(WriteFault::Room(needed));
         }
-        Ok(Plan { widths: tested, rules: rules as u16, code: K::kind_code(), size: size as u16 })
+        Ok(Plan {
+            widths: tested,
+            rules: rules as u16,
+            code: K::kind_code(),
+            size: size as u16,
+        })
     }
 
     // Writes the header and the widths.
@@ -61,28 +68,35 @@ impl Plan {
         ensures after { λ _. ⌜ now (out .exit) ≡ put 0 (head-bytes (length (now (widths .entry))) (self .rules) (self .code) ++ now (widths .entry)) (now (out .entry)) ⌝ }
     {
         put_front(out, widths, self.rules, self.code);
-        RowStage { plan: self, done: 0 }
+        RowStage {
+            plan: self,
+            done: 0,
+        }
     }
 
     pub(crate) fn length(self) -> usize
         ensures { λ r. ⌜ r ≡ plan-length self ⌝ }
     {
-        length_of(self.widths.fields(), self.rules as usize, self.size as usize)
+        length_of(
+            self.widths.fields(),
+            self.rules as usize,
+            self.size as usize,
+        )
     }
 }
 
 impl RowStage {
     // Starts a file of so many rules with decisions of the kind K: writes the header and the widths.
-    pub fn start<K: Kind>(widths: &[u8], rules: usize, out: &mut [u8]) -> Result<RowStage, WriteFault>
-        ensures answer {
-            λ r. ⌜ Cases r
-              (λ s. (start-refusal (now (widths .entry)) rules size (length (now (out .entry))) ≡ None) × Begun (now (widths .entry)) rules code size s)
-              (λ e. start-refusal (now (widths .entry)) rules size (length (now (out .entry))) ≡ Some (write-reason e)) ⌝
-        }
-        ensures after {
-            λ _. ⌜ now (out .exit) ≡ changed (start-refusal (now (widths .entry)) rules size (length (now (out .entry)))) (now (out .entry))
-              (put 0 (head-bytes (length (now (widths .entry))) rules code ++ now (widths .entry)) (now (out .entry))) ⌝
-        }
+    pub fn start<K: Kind>(
+        widths: &[u8],
+        rules: usize,
+        out: &mut [u8],
+    ) -> Result<RowStage, WriteFault>
+        ensures answer { λ r. ⌜ Cases r
+            (λ s. (start-refusal (now (widths .entry)) rules size (length (now (out .entry))) ≡ None) × Begun (now (widths .entry)) rules code size s)
+            (λ e. start-refusal (now (widths .entry)) rules size (length (now (out .entry))) ≡ Some (write-reason e)) ⌝ }
+        ensures after { λ _. ⌜ now (out .exit) ≡ changed (start-refusal (now (widths .entry)) rules size (length (now (out .entry)))) (now (out .entry))
+            (put 0 (head-bytes (length (now (widths .entry))) rules code ++ now (widths .entry)) (now (out .entry))) ⌝ }
     {
         let plan = Plan::test::<K>(widths, rules, out.len())?;
         Ok(plan.start(widths, out))
@@ -91,10 +105,8 @@ impl RowStage {
     // Writes the next row.
     pub fn row(self, out: &mut [u8], ends: [Ends; 8]) -> RowStep
         ensures answer { λ r. ⌜ row-told r ≡ judged (row-refusal self ends (length (now (out .entry)))) self (row-next self) ⌝ }
-        ensures after {
-            λ _. ⌜ now (out .exit) ≡ changed (row-refusal self ends (length (now (out .entry)))) (now (out .entry))
-              (put (row-at self) (row-bytes (plan-fields (self .plan)) ends) (now (out .entry))) ⌝
-        }
+        ensures after { λ _. ⌜ now (out .exit) ≡ changed (row-refusal self ends (length (now (out .entry)))) (now (out .entry))
+            (put (row-at self) (row-bytes (plan-fields (self .plan)) ends) (now (out .entry))) ⌝ }
     {
         let needed = self.plan.length();
         if out.len() < needed {
@@ -110,7 +122,10 @@ impl RowStage {
         let d = self.plan.widths.fields();
         put_row(out, 16 + d + 8 * (done as usize * d), d, &ends);
         let RowStage { plan, done } = self;
-        RowStep::Next(RowStage { plan, done: done + 1 })
+        RowStep::Next(RowStage {
+            plan,
+            done: done + 1,
+        })
     }
 
     // From the rows to the decisions, once all rows stand.
@@ -137,10 +152,8 @@ impl DecisionStage {
     // Writes the next decision.
     pub fn decision<K: Kind>(self, out: &mut [u8], decision: K) -> DecisionStep
         ensures answer { λ r. ⌜ decision-told r ≡ judged (decision-refusal self code size (length (now (out .entry)))) self (decision-next self) ⌝ }
-        ensures after {
-            λ _. ⌜ now (out .exit) ≡ changed (decision-refusal self code size (length (now (out .entry)))) (now (out .entry))
-              (put (decision-place self) (written decision) (now (out .entry))) ⌝
-        }
+        ensures after { λ _. ⌜ now (out .exit) ≡ changed (decision-refusal self code size (length (now (out .entry)))) (now (out .entry))
+            (put (decision-place self) (written decision) (now (out .entry))) ⌝ }
         ensures kept { λ _. ⌜ (decision-refusal self code size (length (now (out .entry))) ≡ None → reading (written decision) ≡ decision) ⌝ }
     {
         let needed = self.plan.length();
@@ -159,7 +172,10 @@ impl DecisionStage {
         let at = 16 + d + 8 * (d * self.plan.rules as usize) + done as usize * size;
         put_decision(out, at, decision);
         let DecisionStage { plan, done } = self;
-        DecisionStep::Next(DecisionStage { plan, done: done + 1 })
+        DecisionStep::Next(DecisionStage {
+            plan,
+            done: done + 1,
+        })
     }
 
     // The file's length, once all decisions stand.

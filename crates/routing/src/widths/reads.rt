@@ -25,8 +25,16 @@ impl WidthsFault {
         ensures { λ r. ⌜ r ≡ told-by layer (widths-reason self) ⌝ }
     {
         match self {
-            WidthsFault::Fields => Refusal { layer, number: 3, place: 1 },
-            WidthsFault::Width(field) => Refusal { layer, number: 8, place: field as usize },
+            WidthsFault::Fields => Refusal {
+                layer,
+                number: 3,
+                place: 1,
+            },
+            WidthsFault::Width(field) => Refusal {
+                layer,
+                number: 8,
+                place: field as usize,
+            },
         }
     }
 }
@@ -59,17 +67,19 @@ fn pack(widths: &[u8]) -> u64
 fn width_at(widths: Widths, field: usize) -> u8
     ensures { λ r. ⌜ r ≡ getD (widths-of widths) field 0 ⌝ }
 {
-    if field < 8 { ((widths.number >> (8 * field)) % 256) as u8 } else { 0 }
+    if field < 8 {
+        ((widths.number >> (8 * field)) % 256) as u8
+    } else {
+        0
+    }
 }
 
 impl Widths {
     // The widths of as many fields as there are bytes.
     pub fn test(widths: &[u8]) -> Result<Widths, WidthsFault>
-        ensures {
-            λ r. ⌜ Cases r
-              (λ w. (widths-refusal (now (widths .entry)) ≡ None) × (widths-of w ≡ now (widths .entry)))
-              (λ f. widths-refusal (now (widths .entry)) ≡ Some (widths-reason f)) ⌝
-        }
+        ensures { λ r. ⌜ Cases r
+            (λ w. (widths-refusal (now (widths .entry)) ≡ None) × (widths-of w ≡ now (widths .entry)))
+            (λ f. widths-refusal (now (widths .entry)) ≡ Some (widths-reason f)) ⌝ }
     {
         let fields = widths.len();
         if fields < 1 || fields > 8 {

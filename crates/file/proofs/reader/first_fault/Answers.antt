@@ -10,4 +10,4 @@ pub returns : need.returns
 returns g c =
     sym
     (by-body _ _ _ _ (c .in-rest .ensures tt ∙ ap (header-refusal (c .args .bytes .now)) (c .kind-code .ensures))
-      (c .body-fault .ensures ∙ ap (body-refusal (c .args .bytes .now)) (c .decision-size .ensures)))
+    (c .body-fault .ensures ∙ ap (body-refusal (c .args .bytes .now)) (c .decision-size .ensures)))

@@ -13,7 +13,7 @@ returns-then-rule-rules g c =
     let x = c .index-rules-rule .result in
     sym
     (nth-getD (map decision-of-rule rs) (c .args .rule) (x .decision) (omega (arith, length-map rs decision-of-rule))
-      ∙ ap Some (getD-map decision-of-rule rs (c .args .rule) x (x .decision) (c .if-rule-rules .taken)))
+    ∙ ap Some (getD-map decision-of-rule rs (c .args .rule) x (x .decision) (c .if-rule-rules .taken)))
 
 pub returns-else-rule-rules : need.returns-else-rule-rules
 returns-else-rule-rules g c =

@@ -16,8 +16,8 @@ returns-then-not-holds c =
     let rest = matches (c .args .fields - (k + 1)) (drop (k + 1) (c .args .ends .now)) (drop (k + 1) (c .args .message)) in
     sym
     (c .loop-k .inv
-      ∙ matches-more (c .args .fields) k (c .args .ends .now) (c .args .message) (omega arith) (omega arith) long
-      ∙ ap (λ (b : Bool). b && rest) (sym (c .if-not-holds .ensures tt)))
+    ∙ matches-more (c .args .fields) k (c .args .ends .now) (c .args .message) (omega arith) (omega arith) long
+    ∙ ap (λ (b : Bool). b && rest) (sym (c .if-not-holds .ensures tt)))
 
 pub loop-k-again : need.loop-k-again
 loop-k-again c =
@@ -33,5 +33,5 @@ returns c =
     let k = c .loop-k .k in
     sym
     (c .loop-k .inv
-      ∙ ap (λ l. matches (c .args .fields - k) l (drop k (c .args .message))) (drop-all k (c .args .ends .now) (omega arith))
-      ∙ matches-none (c .args .fields - k) (drop k (c .args .message)))
+    ∙ ap (λ l. matches (c .args .fields - k) l (drop k (c .args .message))) (drop-all k (c .args .ends .now) (omega arith))
+    ∙ matches-none (c .args .fields - k) (drop k (c .args .message)))

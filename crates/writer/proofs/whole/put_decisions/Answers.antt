@@ -29,9 +29,9 @@ returns-in-Refused g c =
     let p = c .args .start .plan in
     let room : plan-length p ≤ length (c .loop-rule .out) = omega (arith, c .pre .room, c .loop-rule .kept .out) in
     let step =
-      decision-stepped p (c .loop-rule .rule) _ _ _ _ _ _ _ (c .loop-rule .inv .0) room (omega (arith, c .count-rule-end .ensures .of-decisions, c .pre .counted)) (sym (c .pre .kind .0)) (sym (c .pre .kind .1))
-      (c .in-Refused .ensures tt .answer)
-      (c .in-Refused .ensures tt .after)
+    decision-stepped p (c .loop-rule .rule) _ _ _ _ _ _ _ (c .loop-rule .inv .0) room (omega (arith, c .count-rule-end .ensures .of-decisions, c .pre .counted)) (sym (c .pre .kind .0)) (sym (c .pre .kind .1))
+    (c .in-Refused .ensures tt .answer)
+    (c .in-Refused .ensures tt .after)
     in
     never-both (step .0)
 
@@ -45,20 +45,23 @@ loop-rule-again g c =
     let below : k < length ds = omega (arith, c .count-rule-end .ensures .of-decisions) in
     let room : plan-length p ≤ length (c .loop-rule .out) = omega (arith, c .pre .room, c .loop-rule .kept .out) in
     let step =
-      decision-stepped p k _ _ _ (written x) _ _ _ (c .loop-rule .inv .0) room (omega (arith, c .pre .counted)) (sym (c .pre .kind .0)) (sym (c .pre .kind .1))
-      (c .in-Next .ensures tt .answer)
-      (c .in-Next .ensures tt .after)
+    decision-stepped p k _ _ _ (written x) _ _ _ (c .loop-rule .inv .0) room (omega (arith, c .pre .counted)) (sym (c .pre .kind .0)) (sym (c .pre .kind .1))
+    (c .in-Next .ensures tt .answer)
+    (c .in-Next .ensures tt .after)
     in
     let here : (y : g .K .Denot) → x ≡ getD ds k y = λ y. let e = c .in-Some .ensures tt ∙ nth-getD ds k y below in cc in
     let more = decisions-more written p ds x k (c .args .out .now) (here x) below (g .K·Kind·met .sized x ∙ sym (c .pre .kind .1)) (c .pre .counted) (c .pre .room) (c .loop-rule .inv .1) in
     let none =
-      ap (λ s. decision-refusal s (g .K·Kind .code) (g .K·Kind .size) (length (c .loop-rule .out))) (c .loop-rule .inv .0)
-      ∙ decision-granted p k _ _ _ room (omega (arith, c .pre .counted)) (sym (c .pre .kind .0)) (sym (c .pre .kind .1))
+    ap (λ s. decision-refusal s (g .K·Kind .code) (g .K·Kind .size) (length (c .loop-rule .out))) (c .loop-rule .inv .0)
+    ∙ decision-granted p k _ _ _ room (omega (arith, c .pre .counted)) (sym (c .pre .kind .0)) (sym (c .pre .kind .1))
     in
     let same = c .in-Next .ensures tt .kept none in
-    let at = decisions-at (plan-fields p) (p .rules) in
-    (same-granted (step .0), more .0, step .1 ∙ ap (put (at + k * p .size) (written x)) (c .loop-rule .inv .2) ∙ more .1,
-      below-more (λ j. (y : g .K .Denot) → g .K·Kind .reading (written (getD ds j y)) ≡ getD ds j y) k (c .loop-rule .inv .3) (λ y. rw (← here y) same))
+    let at = decisions-at (plan-fields p) (p .rules) in (
+      same-granted (step .0),
+      more .0,
+      step .1 ∙ ap (put (at + k * p .size) (written x)) (c .loop-rule .inv .2) ∙ more .1,
+      below-more (λ j. (y : g .K .Denot) → g .K·Kind .reading (written (getD ds j y)) ≡ getD ds j y) k (c .loop-rule .inv .3) (λ y. rw (← here y) same),
+    )
 
 pub returns : need.returns
 returns g c =
@@ -68,9 +71,9 @@ returns g c =
     let all : length ds ≤ k = omega (arith, c .count-rule-end .ensures .of-decisions, c .loop-rule-test .left) in
     record {
       answer =
-        c .end .ensures
-        ∙ ap (λ s. judged (end-refusal s) s (plan-length (s .plan))) (c .loop-rule .inv .0)
-        ∙ ap (λ r. judged r (decisions-done p k) (plan-length p)) (end-granted p k (omega (arith, c .pre .counted)));
+          c .end .ensures
+          ∙ ap (λ s. judged (end-refusal s) s (plan-length (s .plan))) (c .loop-rule .inv .0)
+          ∙ ap (λ r. judged r (decisions-done p k) (plan-length p)) (end-granted p k (omega (arith, c .pre .counted)));
       after = c .loop-rule .inv .2 ∙ ap (λ l. put (decisions-at (plan-fields p) (p .rules)) (joined (g .K·Kind .written) l) (c .args .out .now)) (take-all k ds all);
       kept = λ j h x. c .loop-rule .inv .3 j (omega arith) x;
     }

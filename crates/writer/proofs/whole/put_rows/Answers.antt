@@ -24,7 +24,7 @@ returns-in-Refused g c =
     let p = c .args .start .plan in
     let k = c .loop-rule .rule in
     let fits : ends-refusal (widths-of (p .widths)) (c .row .result) ≡ None =
-      ap (ends-refusal (widths-of (p .widths))) (c .row .ensures) ∙ c .pre .lawful k (omega (arith, c .count-rule-end .ensures .of-rows))
+    ap (ends-refusal (widths-of (p .widths))) (c .row .ensures) ∙ c .pre .lawful k (omega (arith, c .count-rule-end .ensures .of-rows))
     in
     let room : plan-length p ≤ length (c .loop-rule .out) = omega (arith, c .pre .room, c .loop-rule .kept .out) in
     let step = row-stepped p k _ _ _ _ _ (c .loop-rule .inv .0) room (omega (arith, c .count-rule-end .ensures .of-rows, c .pre .counted)) fits (c .in-Refused .ensures tt .answer) (c .in-Refused .ensures tt .after) in
@@ -54,8 +54,8 @@ returns g c =
     let all : length rows ≤ k = omega (arith, c .count-rule-end .ensures .of-rows, c .loop-rule-test .left) in
     record {
       answer =
-        c .turn .ensures
-        ∙ ap (λ s. judged (turn-refusal s) s (turned s)) (c .loop-rule .inv .0)
-        ∙ ap (λ r. judged r (rows-done p k) (turned (c .args .start))) (turn-granted p k (omega (arith, c .pre .counted)));
+          c .turn .ensures
+          ∙ ap (λ s. judged (turn-refusal s) s (turned s)) (c .loop-rule .inv .0)
+          ∙ ap (λ r. judged r (rows-done p k) (turned (c .args .start))) (turn-granted p k (omega (arith, c .pre .counted)));
       after = c .loop-rule .inv .2 ∙ ap (λ l. put (rows-at d) (rows-bytes d l) (c .args .out .now)) (take-all k rows all);
     }

@@ -16,8 +16,8 @@ returns g c =
     let reason = rewrite-reason (m .written) (m .reading) bs _ out (m .code) (m .size) (c .pre .bytes) again (c .pre .lawful) (c .widths .ensures) in
     record {
       answer =
-        cases-weaker (c .write-table .result) (c .write-table .ensures .answer)
-        (λ n h. (reason ∙ ap (mapped (told-by Writer)) (h .0), h .1 ∙ rewrite-long (m .written) (m .reading) bs _ out (m .code) (m .size) (c .pre .bytes) again (c .pre .lawful) (c .widths .ensures)))
-        (λ e h. reason ∙ ap (mapped (told-by Writer)) h);
+          cases-weaker (c .write-table .result) (c .write-table .ensures .answer)
+          (λ n h. (reason ∙ ap (mapped (told-by Writer)) (h .0), h .1 ∙ rewrite-long (m .written) (m .reading) bs _ out (m .code) (m .size) (c .pre .bytes) again (c .pre .lawful) (c .widths .ensures)))
+          (λ e h. reason ∙ ap (mapped (told-by Writer)) h);
       after = rewrite-after (m .written) (m .reading) bs _ out (m .code) (m .size) (c .pre .bytes) again (c .pre .lawful) (c .widths .ensures) _ (c .write-table .ensures .after);
     }

@@ -28,6 +28,7 @@ loop-rule-again g c =
     let rows = g .R·Rules .rows (c .args .rules .now) in
     let k = c .loop-rule .rule in
     let here : ends-refusal ws (getD rows k blank) ≡ None = ap (ends-refusal ws) (sym (c .row .ensures)) ∙ sym (c .in-rest .ensures tt) in
-    let long : length (c .row .result) ≡ 8 = search needs in
-    (some-more (λ r. ends-refusal ws (getD rows r blank)) k (c .loop-rule .inv .0) here,
-      below-more _ _ (c .loop-rule .inv .1) (ap length (sym (c .row .ensures)) ∙ long))
+    let long : length (c .row .result) ≡ 8 = search needs in (
+      some-more (λ r. ends-refusal ws (getD rows r blank)) k (c .loop-rule .inv .0) here,
+      below-more _ _ (c .loop-rule .inv .1) (ap length (sym (c .row .ensures)) ∙ long),
+    )

@@ -42,7 +42,7 @@ returns-in-Done g c =
     let n = c .count .ensures .of-rows in
     let planned = c .in-Continue-plan .ensures tt .1 in
     let l : Planned ws (length rows) code size p =
-      record { of-widths = planned .of-widths; of-rules = planned .of-rules ∙ n; of-code = planned .of-code; of-size = planned .of-size }
+    record { of-widths = planned .of-widths; of-rules = planned .of-rules ∙ n; of-code = planned .of-code; of-size = planned .of-size }
     in
     let begun : start-refusal ws (length rows) size (length out) ≡ None = ap (λ m. start-refusal ws m size (length out)) (sym n) ∙ c .in-Continue-plan .ensures tt .0 in
     let s = start-settled ws (length rows) size (length out) begun in
@@ -56,7 +56,7 @@ returns-in-Done g c =
     record {
       answer = (fine, same-granted (c .in-Done .ensures tt .answer) ∙ ap (λ t. plan-length (t .plan)) next ∙ planned-length ws (length rows) code size p l);
       after =
-        table-put (g .K·Kind .written) (g .K·Kind .reading) code size ws rows ds (s .1) paired (s .0) eights lawful (g .K·Kind·met .sized) p l _ first _ next out _ _ _ (c .start-stage .ensures .after) (c .in-Next .ensures tt .after) (c .in-Done .ensures tt .after) (s .2)
-        ∙ sym (ap (λ r. changed r out (put 0 (file-bytes (g .K·Kind .written) code ws rows ds) out)) fine);
+          table-put (g .K·Kind .written) (g .K·Kind .reading) code size ws rows ds (s .1) paired (s .0) eights lawful (g .K·Kind·met .sized) p l _ first _ next out _ _ _ (c .start-stage .ensures .after) (c .in-Next .ensures tt .after) (c .in-Done .ensures tt .after) (s .2)
+          ∙ sym (ap (λ r. changed r out (put 0 (file-bytes (g .K·Kind .written) code ws rows ds) out)) fine);
       again = λ _. reads-back (g .K·Kind .written) (g .K·Kind .reading) code size ws rows ds (s .1) paired (s .0) eights lawful (g .K·Kind·met .sized) (c .in-Done .ensures tt .kept);
     }

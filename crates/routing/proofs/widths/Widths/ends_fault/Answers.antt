@@ -15,7 +15,7 @@ returns-then-not-fits c =
     let es = c .args .ends .now in
     let k = c .loop-k .k in
     let bad : ends-bad ws es k ≡ true =
-      ap (λ w. not (fits w (at es k))) (sym (c .width .ensures)) ∙ ap not (sym (c .if-not-fits .ensures tt))
+    ap (λ w. not (fits w (at es k))) (sym (c .width .ensures)) ∙ ap not (sym (c .if-not-fits .ensures tt))
     in
     found (ends-bad ws es) (length ws) k (omega (arith, c .fields-k-end .ensures)) (c .loop-k .inv) bad
 
@@ -25,6 +25,6 @@ loop-k-again c =
     let es = c .args .ends .now in
     let k = c .loop-k .k in
     let fine : ends-bad ws es k ≡ false =
-      ap (λ w. not (fits w (at es k))) (sym (c .width .ensures)) ∙ ap not (sym (c .if-not-fits .ensures tt))
+    ap (λ w. not (fits w (at es k))) (sym (c .width .ensures)) ∙ ap not (sym (c .if-not-fits .ensures tt))
     in
     none-more (ends-bad ws es) suc k (c .loop-k .inv) fine

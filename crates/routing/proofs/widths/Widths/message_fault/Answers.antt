@@ -14,7 +14,7 @@ returns-then-not-within c =
     let k = c .loop-k .k in
     let v = getD (c .args .message) k 0 in
     let bad : value-bad (widths-of (c .args .self)) (c .args .message) k ≡ true =
-      ap (λ w. not (ltb v (2 ^ w))) (sym (c .width .ensures)) ∙ ap not (sym (c .if-not-within .ensures tt))
+    ap (λ w. not (ltb v (2 ^ w))) (sym (c .width .ensures)) ∙ ap not (sym (c .if-not-within .ensures tt))
     in
     found (value-bad (widths-of (c .args .self)) (c .args .message)) 8 k (omega arith) (c .loop-k .inv) bad
 
@@ -23,6 +23,6 @@ loop-k-again c =
     let k = c .loop-k .k in
     let v = getD (c .args .message) k 0 in
     let fine : value-bad (widths-of (c .args .self)) (c .args .message) k ≡ false =
-      ap (λ w. not (ltb v (2 ^ w))) (sym (c .width .ensures)) ∙ ap not (sym (c .if-not-within .ensures tt))
+    ap (λ w. not (ltb v (2 ^ w))) (sym (c .width .ensures)) ∙ ap not (sym (c .if-not-within .ensures tt))
     in
     none-more (value-bad (widths-of (c .args .self)) (c .args .message)) suc k (c .loop-k .inv) fine

@@ -14,10 +14,10 @@ returns-then-width-lt1 c =
     let ws = c .args .widths .now in
     let k = c .loop-k .k in
     let bad : width-bad ws k ≡ true =
-      elim (c .then-width-lt1 .came) [
-        then-width-lt1·by·then-width-lt1 w ↦ grind (arith, tells)
+    elim (c .then-width-lt1 .came) [
+      | then-width-lt1·by·then-width-lt1 w ↦ grind (arith, tells)
       | then-width-lt1·by·else-width-lt1·then-width-gt32 w ↦ grind (arith, tells)
-      ]
+    ]
     in
     found (width-bad ws) (length ws) k (c .loop-k-test .taken) (c .loop-k .inv) bad
 
