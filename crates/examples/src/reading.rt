@@ -3,7 +3,7 @@ use decision::handling::Handling;
 use decision::handling::HandlingKind;
 use decision::queue::Queue;
 use decision::queue::QueueKind;
-use file::fault::FileFaultDebug;
+use fault::reading::FileFaultDebug;
 use file::reader::TableFile;
 use file::rules::FileRules;
 use file::rules::Rules;

@@ -20,7 +20,8 @@ take-none : (n : ℕ) → take {A = ℕ} n [] ≡ []
 take-none n = take-all n [] (omega arith)
 
 -- a slice whose bounds stop at the end
-pub part-bounded : (bs : List ℕ) (at n from to : ℕ) → from ≡ min at (length bs) → to ≡ min (at + n) (length bs) → take (to - from) (drop from bs) ≡ part at n bs
+pub part-bounded : (bs : List ℕ) (at n from to : ℕ) → from ≡ min at (length bs) → to ≡ min (at + n) (length bs)
+    → take (to - from) (drop from bs) ≡ part at n bs
 part-bounded bs at n from to f t =
     ⊎-elim
     (λ (h : at < length bs).
@@ -46,7 +47,8 @@ module _ {X : Type 0} (f : ℕ → X) (n r : ℕ) where
   nth-beyond h = nth-past (map f (counting 0 n)) r (omega (arith, length-map-counting f 0 n))
 
 -- a decision's bytes, by numbers as they were read
-pub decision-part : (bs : List ℕ) (d n r size s at : ℕ) → d ≡ fields bs → n ≡ rules bs → s ≡ size → at ≡ decisions-at d n + r * s → part at s bs ≡ decision-bytes bs size r
+pub decision-part : (bs : List ℕ) (d n r size s at : ℕ) → d ≡ fields bs → n ≡ rules bs → s ≡ size → at ≡ decisions-at d n + r * s
+    → part at s bs ≡ decision-bytes bs size r
 decision-part bs d n r size s at p q e h = rw (h, p, q, e)
 
 -- within a list there is an item
@@ -67,7 +69,8 @@ pub part-at : (ps xs qs : List ℕ) (i n : ℕ) → length ps ≡ i → length x
 part-at ps xs qs i n e f = ap (take n) (drop-at ps (xs ++ qs) i e) ∙ take-at xs qs n f
 
 -- a list is what counting gives, where each item is; no default is at hand
-pub counted-items : {X : Type 0} (f : ℕ → X) (xs : List X) → ((k : ℕ) → k < length xs → (x : X) → getD xs k x ≡ f k) → xs ≡ map f (counting 0 (length xs))
+pub counted-items : {X : Type 0} (f : ℕ → X) (xs : List X) → ((k : ℕ) → k < length xs → (x : X) → getD xs k x ≡ f k)
+    → xs ≡ map f (counting 0 (length xs))
 counted-items f [] h = refl
 counted-items f (x ∷ xs) h =
     fill-by-all f (x ∷ xs) (length (x ∷ xs)) x refl (λ k l. h k l x)

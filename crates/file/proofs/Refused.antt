@@ -25,7 +25,8 @@ module _ (bs : List ℕ) (code size : ℕ) where
   by-body o e f = rw (← e, ← f)
 
 -- a row's fault by its byte, from the widths and the pairs as they were read
-pub row-placed : (bs : List ℕ) (d r : ℕ) (ws : List ℕ) (es : List Ends) (o : Option ℕ) → d ≡ fields bs → ws ≡ width-bytes bs → es ≡ row-of bs r → o ≡ ends-refusal ws es → row-place bs r ≡ mapped (λ field. low-at d (r * d + field) - 8) o
+pub row-placed : (bs : List ℕ) (d r : ℕ) (ws : List ℕ) (es : List Ends) (o : Option ℕ) → d ≡ fields bs → ws ≡ width-bytes bs
+    → es ≡ row-of bs r → o ≡ ends-refusal ws es → row-place bs r ≡ mapped (λ field. low-at d (r * d + field) - 8) o
 row-placed bs d r ws es o p q s e = rw (p, ← q, ← s, ← e)
 
 -- a test that came out well, and what is left to test
@@ -100,7 +101,8 @@ counts-say bs size e =
     }
 
 -- What a lawful file says.
-pub file-says : (bs : List ℕ) (code size : ℕ) → file-refusal bs code size ≡ None → Header bs code × Counts bs size × (widths-refusal (width-bytes bs) ≡ None) × (first-some (row-place bs) (rules bs) ≡ None)
+pub file-says : (bs : List ℕ) (code size : ℕ) → file-refusal bs code size ≡ None
+    → Header bs code × Counts bs size × (widths-refusal (width-bytes bs) ≡ None) × (first-some (row-place bs) (rules bs) ≡ None)
 unfolding file-refusal
 file-says bs code size e =
     let f = first-none _ _ e in

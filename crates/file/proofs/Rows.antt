@@ -20,7 +20,8 @@ abbrev pub Given : (ℕ → Ends) → ℕ → List Ends → Type 0
 Given f k row = (length row ≡ 8) × ((j : ℕ) → j < 8 → getD row j no-ends ≡ cond (ltb j k) (f j) no-ends)
 
 -- one more
-pub given-more : (f : ℕ → Ends) (k : ℕ) (row : List Ends) (j : ℕ) → k < length row → getD row j no-ends ≡ cond (ltb j k) (f j) no-ends → getD (set row k (f k)) j no-ends ≡ cond (ltb j (k + 1)) (f j) no-ends
+pub given-more : (f : ℕ → Ends) (k : ℕ) (row : List Ends) (j : ℕ) → k < length row → getD row j no-ends ≡ cond (ltb j k) (f j) no-ends
+    → getD (set row k (f k)) j no-ends ≡ cond (ltb j (k + 1)) (f j) no-ends
 given-more f k row j h e =
     ⊎-elim
     (λ (q : j ≡ k).

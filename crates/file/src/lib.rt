@@ -1,6 +1,5 @@
 // The file of a routing table, read where the caller keeps it.
 mod checks;
-pub mod fault;
 mod number;
 pub mod reader;
 pub mod rules;

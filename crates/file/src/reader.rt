@@ -4,13 +4,13 @@ ghost use Rattle.std.specs.Options.{mapped};
 ghost use Rattle.std.specs.Results.{Cases};
 ghost use Rattle.std.specs.declared.option.Option.the-variants.{Some, None};
 ghost use Rattle.file.specs.Layout.{file-refusal, fields, width-bytes};
-ghost use Rattle.file.specs.Faults.{file-reason};
+ghost use Rattle.fault.specs.Faults.{file-reason};
 use crate::checks::body_fault;
 use crate::checks::header_fault;
-use crate::fault::FileFault;
 use crate::number::part_of;
 use decision::bytes::byte_at;
 use decision::kind::Kind;
+use fault::reading::FileFault;
 use std::marker::PhantomData;
 
 // A file of decisions of the kind K. It is made by `open` alone, which accepts only lawful files.

@@ -10,7 +10,8 @@ use decision::kind::Kind;
 use decision::queue::Queue;
 use decision::queue::QueueDisplay;
 use decision::queue::QueueKind;
-use file::fault::FileFaultDisplay;
+use fault::reading::FileFaultDisplay;
+use fault::writing::RewriteFaultDisplay;
 use file::reader::TableFile;
 use file::rules::FileRules;
 use file::rules::Rules;
@@ -19,7 +20,6 @@ use routing::refusal::shown::RefusalDisplay;
 use std::fmt::Display;
 use std::io;
 use std::io::Read;
-use writer::fault::RewriteFaultDisplay;
 use writer::whole::rewrite;
 
 // No lawful file is longer than 35,864 bytes.

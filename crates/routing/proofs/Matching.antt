@@ -11,7 +11,8 @@ use Rattle.routing.specs.Rules.{holds, matches}
 use Rattle.routing.specs.Space.{at}
 
 -- from field k on: field k, and the fields after it
-pub matches-more : (d k : ℕ) (es : List Ends) (m : List ℕ) → k < d → k < length es → k < length m → matches (d - k) (drop k es) (drop k m) ≡ (holds (at es k) (getD m k 0) && matches (d - (k + 1)) (drop (k + 1) es) (drop (k + 1) m))
+pub matches-more : (d k : ℕ) (es : List Ends) (m : List ℕ) → k < d → k < length es → k < length m
+    → matches (d - k) (drop k es) (drop k m) ≡ (holds (at es k) (getD m k 0) && matches (d - (k + 1)) (drop (k + 1) es) (drop (k + 1) m))
 matches-more d k es m h i j =
     let e : d - k ≡ suc (d - (k + 1)) = omega arith in
     rw (e, drop-more es k (record { low = 0; high = 0 }) i, drop-more m k 0 j)

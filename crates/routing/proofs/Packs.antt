@@ -30,7 +30,8 @@ packed-padded [] n = packed-zeros n
 packed-padded (w ∷ ws) n = omega (arith, packed-padded ws n)
 
 -- bytes that are not 0, read back from their number
-pub bytes-again : (n : ℕ) (ws : List ℕ) → length ws ≤ n → ((k : ℕ) → k < length ws → (1 ≤ getD ws k 0) × (getD ws k 0 < 256)) → bytes-up n (packed ws) ≡ ws
+pub bytes-again : (n : ℕ) (ws : List ℕ) → length ws ≤ n → ((k : ℕ) → k < length ws → (1 ≤ getD ws k 0) × (getD ws k 0 < 256))
+    → bytes-up n (packed ws) ≡ ws
 bytes-again zero [] l h = refl
 bytes-again zero (w ∷ ws) l h = absurd (omega arith)
 bytes-again (suc n) [] l h = refl

@@ -116,7 +116,8 @@ module _ {K : Type 0} (written : K → List ℕ) (reading : List ℕ → K) (bs 
       ∙ take-all (16 + d + (8 * (d * n) + n * size)) bs (omega (arith, k .long))
 
   -- and it is refused only for lack of room
-  pub rewritten : (room : ℕ) → widths-refusal (width-bytes bs) ≡ None → first-some (row-place bs) (rules bs) ≡ None → table-refusal (width-bytes bs) (rows-of bs) size room ≡ room-refusal (length bs) room
+  pub rewritten : (room : ℕ) → widths-refusal (width-bytes bs) ≡ None → first-some (row-place bs) (rules bs) ≡ None
+      → table-refusal (width-bytes bs) (rows-of bs) size room ≡ room-refusal (length bs) room
   rewritten room w r =
       let n = rules bs in
       let lw : length (width-bytes bs) ≡ fields bs = length-part 16 (fields bs) bs (omega (arith, k .long)) in
@@ -145,7 +146,9 @@ module _ {K : Type 0} (written : K → List ℕ) (reading : List ℕ → K) (bs 
       ∙ rw q
 
   -- what the buffer then holds
-  pub rewrite-after : (out′ : List ℕ) → out′ ≡ changed (table-refusal ws (rows-of bs) size (length out)) out (put 0 (file-bytes written code ws (rows-of bs) (decisions-of reading size bs)) out) → out′ ≡ changed (rewrite-refusal bs code size (length out)) out (put 0 bs out)
+  pub rewrite-after : (out′ : List ℕ)
+      → out′ ≡ changed (table-refusal ws (rows-of bs) size (length out)) out (put 0 (file-bytes written code ws (rows-of bs) (decisions-of reading size bs)) out)
+      → out′ ≡ changed (rewrite-refusal bs code size (length out)) out (put 0 bs out)
   rewrite-after out′ e =
       let s = file-says bs code size lawful in
       let same : file-bytes written code ws (rows-of bs) (decisions-of reading size bs) ≡ bs = rw q (file-again written reading bs code size small (s .0) (s .1) again) in

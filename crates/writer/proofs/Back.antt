@@ -42,7 +42,8 @@ use Rattle.file.proofs.Rows.{eight-same}
 use Rattle.routing.proofs.Test.{widths-settled}
 
 -- a row's pair at field k stands in its bytes with 8 * k bytes before it
-row-split : (d : ℕ) (es : List Ends) (k : ℕ) → d ≤ length es → k < d → row-bytes d es ≡ joined ends-bytes (take k (take d es)) ++ (ends-bytes (at es k) ++ joined ends-bytes (drop (suc k) (take d es)))
+row-split : (d : ℕ) (es : List Ends) (k : ℕ) → d ≤ length es → k < d
+    → row-bytes d es ≡ joined ends-bytes (take k (take d es)) ++ (ends-bytes (at es k) ++ joined ends-bytes (drop (suc k) (take d es)))
 row-split d es k l h =
     joined-split ends-bytes (take d es) k no-ends (omega (arith, length-take-le d es l))
     ∙ ap (λ e. joined ends-bytes (take k (take d es)) ++ (ends-bytes e ++ joined ends-bytes (drop (suc k) (take d es)))) (getD-take d es k no-ends h)
@@ -130,7 +131,8 @@ module _ {K : Type 0} (written : K → List ℕ) (reading : List ℕ → K) (cod
   widths-back = take-at ws (rows-bytes d rows ++ joined written ds) d refl
 
   -- where a pair stands
-  pair-place : (r k : ℕ) → r < n → k < d → (ps qs : List ℕ) × (file ≡ ps ++ (ends-bytes (at (getD rows r blank) k) ++ qs)) × (length ps ≡ low-at d (r * d + k))
+  pair-place : (r k : ℕ) → r < n → k < d
+      → (ps qs : List ℕ) × (file ≡ ps ++ (ends-bytes (at (getD rows r blank) k) ++ qs)) × (length ps ≡ low-at d (r * d + k))
   pair-place r k h i =
       let es = getD rows r blank in
       let a = joined (row-bytes d) (take r rows) in
@@ -252,7 +254,11 @@ module _ {K : Type 0} (written : K → List ℕ) (reading : List ℕ → K) (cod
       }
 
   -- a plan's stages put the whole file
-  pub table-put : (p : Plan) → Planned ws n code size p → (s : RowStage) → s ≡ rows-done p 0 → (t : DecisionStage) → t ≡ decisions-done p 0 → (out o₁ o₂ o₃ : List ℕ) → o₁ ≡ put 0 (head-bytes d (p .rules) (p .code) ++ ws) out → o₂ ≡ put (rows-at (plan-fields (s .plan))) (rows-bytes (plan-fields (s .plan)) rows) o₁ → o₃ ≡ put (decisions-at (plan-fields (t .plan)) (t .plan .rules)) (joined written ds) o₂ → file-length d n size ≤ length out → o₃ ≡ put 0 file out
+  pub table-put : (p : Plan) → Planned ws n code size p → (s : RowStage) → s ≡ rows-done p 0 → (t : DecisionStage) → t ≡ decisions-done p 0
+      → (out o₁ o₂ o₃ : List ℕ) → o₁ ≡ put 0 (head-bytes d (p .rules) (p .code) ++ ws) out
+      → o₂ ≡ put (rows-at (plan-fields (s .plan))) (rows-bytes (plan-fields (s .plan)) rows) o₁
+      → o₃ ≡ put (decisions-at (plan-fields (t .plan)) (t .plan .rules)) (joined written ds) o₂ → file-length d n size ≤ length out
+      → o₃ ≡ put 0 file out
   table-put p l s se t te out o₁ o₂ o₃ e₁ e₂ e₃ room =
       let all = rows-bytes d rows in
       let dec = joined written ds in

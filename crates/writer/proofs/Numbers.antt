@@ -44,7 +44,8 @@ four-at ps qs n i h e =
     omega arith
 
 -- a pair of ends likewise
-pub pair-at : (ps qs : List ℕ) (e : Ends) (bs : List ℕ) (d k : ℕ) → e .low < 4294967296 → e .high < 4294967296 → bs ≡ ps ++ (ends-bytes e ++ qs) → length ps ≡ low-at d k → pair bs d k ≡ e
+pub pair-at : (ps qs : List ℕ) (e : Ends) (bs : List ℕ) (d k : ℕ) → e .low < 4294967296 → e .high < 4294967296
+    → bs ≡ ps ++ (ends-bytes e ++ qs) → length ps ≡ low-at d k → pair bs d k ≡ e
 pair-at ps qs e bs d k l h s i =
     let at = low-at d k in
     let low = four-bytes (e .low) in

@@ -18,5 +18,6 @@ module _ {X : Type 0} (f : X → List ℕ) (xs : List X) (x : X) (k : ℕ) where
   length-front e h = ap length (sym (joined-front e h)) ∙ length-append (joined f (take k xs)) (f x)
 
   -- one piece more, put behind the others
-  pub put-piece : (at to : ℕ) (out : List ℕ) → x ≡ getD xs k x → k < length xs → to ≡ at + length (joined f (take k xs)) → to + length (f x) ≤ length out → put to (f x) (put at (joined f (take k xs)) out) ≡ put at (joined f (take (k + 1) xs)) out
+  pub put-piece : (at to : ℕ) (out : List ℕ) → x ≡ getD xs k x → k < length xs → to ≡ at + length (joined f (take k xs))
+      → to + length (f x) ≤ length out → put to (f x) (put at (joined f (take k xs)) out) ≡ put at (joined f (take (k + 1) xs)) out
   put-piece at to out e h s l = put-put at to (joined f (take k xs)) (f x) out s l ∙ ap (λ bs. put at bs out) (joined-front e h)

@@ -12,7 +12,7 @@ use Rattle.std.specs.declared.option.Option.the-variants.{Some, None}
 use Rattle.routing.specs.declared.ends.Ends.{Ends}
 use Rattle.routing.specs.Fields.{widths-of}
 use Rattle.routing.specs.Lawful.{widths-refusal, ends-refusal}
-use Rattle.writer.specs.Faults.{write-reason}
+use Rattle.fault.specs.Faults.{write-reason}
 use Rattle.file.specs.Layout.{four-bytes, rows-at, low-at, decisions-at, file-length, first-of}
 use Rattle.writer.specs.declared.stage.Plan.{Plan}
 use Rattle.writer.specs.declared.stage.RowStage.{RowStage}

@@ -1,6 +1,6 @@
 // The stages of a file that is written: first its rows, then its decisions. A stage holds plain numbers and no part of the file; it is
 // neither copied nor made by hand, and the type says what can be written next.
-use crate::fault::WriteFault;
+use fault::writing::WriteFault;
 use routing::widths::Widths;
 
 // What the file is for: its widths, how many rules it gets, and the code and the size of its decisions' kind.

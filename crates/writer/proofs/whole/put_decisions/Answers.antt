@@ -8,7 +8,8 @@ use Rattle.std.specs.declared.option.Option.the-variants.{Some, None}
 use Rattle.std.proofs.shelf.Lists.{take-all}
 use Rattle.std.proofs.shelf.Maps.{nth-getD}
 use Rattle.file.specs.Layout.{decisions-at}
-use Rattle.writer.specs.Stages.{put, plan-fields, plan-length, end-refusal, decision-refusal, judged}
+use Rattle.writer.specs.Stages.{put, plan-fields, plan-length, end-refusal, decision-refusal, judged, granted, refused}
+use Rattle.fault.specs.Faults.{write-reason}
 use Rattle.file.proofs.Parts.{nth-there}
 use Rattle.writer.proofs.Puts.{put-none}
 use Rattle.writer.proofs.Steps.{never-both, same-granted, decisions-done, decision-granted, decision-stepped, decisions-more, end-granted}
@@ -29,7 +30,7 @@ returns-in-Refused g c =
     let p = c .args .start .plan in
     let room : plan-length p ≤ length (c .loop-rule .out) = omega (arith, c .pre .room, c .loop-rule .kept .out) in
     let step =
-    decision-stepped p (c .loop-rule .rule) _ _ _ _ _ _ _ (c .loop-rule .inv .0) room (omega (arith, c .count-rule-end .ensures .of-decisions, c .pre .counted)) (sym (c .pre .kind .0)) (sym (c .pre .kind .1))
+    decision-stepped p (c .loop-rule .rule) (c .loop-rule .stage) (g .K·Kind .code) (g .K·Kind .size) (g .K·Kind .written (c .in-Some .decision)) (c .loop-rule .out) (c .decision-in-loop-rule .last .out) (refused (c .in-Refused .back) (write-reason (c .in-Refused .fault))) (c .loop-rule .inv .0) room (omega (arith, c .count-rule-end .ensures .of-decisions, c .pre .counted)) (sym (c .pre .kind .0)) (sym (c .pre .kind .1))
     (c .in-Refused .ensures tt .answer)
     (c .in-Refused .ensures tt .after)
     in
@@ -45,7 +46,7 @@ loop-rule-again g c =
     let below : k < length ds = omega (arith, c .count-rule-end .ensures .of-decisions) in
     let room : plan-length p ≤ length (c .loop-rule .out) = omega (arith, c .pre .room, c .loop-rule .kept .out) in
     let step =
-    decision-stepped p k _ _ _ (written x) _ _ _ (c .loop-rule .inv .0) room (omega (arith, c .pre .counted)) (sym (c .pre .kind .0)) (sym (c .pre .kind .1))
+    decision-stepped p k (c .loop-rule .stage) (g .K·Kind .code) (g .K·Kind .size) (written x) (c .loop-rule .out) (c .decision-in-loop-rule .last .out) (granted (c .in-Next .next)) (c .loop-rule .inv .0) room (omega (arith, c .pre .counted)) (sym (c .pre .kind .0)) (sym (c .pre .kind .1))
     (c .in-Next .ensures tt .answer)
     (c .in-Next .ensures tt .after)
     in

@@ -1,15 +1,27 @@
 -- The number and the place of each fault. Assumes nothing.
 use Prim.Native.Nat.{ℕ}
-use Rattle.file.specs.Faults.{file-reason}
 use Rattle.routing.specs.Refusals.{told-by}
 use Rattle.routing.specs.declared.refusal.Refusal.{Refusal}
 use Rattle.routing.specs.declared.refusal.Layer.the-variants.{File, Writer}
 use Rattle.routing.specs.declared.widths.WidthsFault.{WidthsFault}
 use Rattle.routing.specs.declared.widths.WidthsFault.the-variants as v
-use Rattle.writer.specs.declared.fault.WriteFault.{WriteFault}
-use Rattle.writer.specs.declared.fault.WriteFault.the-variants as w
-use Rattle.writer.specs.declared.fault.RewriteFault.{RewriteFault}
-use Rattle.writer.specs.declared.fault.RewriteFault.the-variants as r
+use Rattle.fault.specs.declared.reading.FileFault.{FileFault}
+use Rattle.fault.specs.declared.reading.FileFault.the-variants as f
+use Rattle.fault.specs.declared.writing.WriteFault.{WriteFault}
+use Rattle.fault.specs.declared.writing.WriteFault.the-variants as w
+use Rattle.fault.specs.declared.writing.RewriteFault.{RewriteFault}
+use Rattle.fault.specs.declared.writing.RewriteFault.the-variants as r
+
+abbrev pub file-reason : FileFault → ℕ × ℕ
+file-reason (f.Short length) = (1, length)
+file-reason (f.Fixed byte) = (2, byte)
+file-reason f.Fields = (3, 1)
+file-reason f.Kind = (4, 2)
+file-reason f.Rules = (5, 4)
+file-reason (f.Offset byte) = (6, byte)
+file-reason (f.Length length) = (7, length)
+file-reason (f.Width byte) = (8, byte)
+file-reason (f.Ends byte) = (9, byte)
 
 abbrev pub write-reason : WriteFault → ℕ × ℕ
 write-reason w.Fields = (3, 1)

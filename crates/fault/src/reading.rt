@@ -2,7 +2,7 @@
 ghost use mathlib.Core.Path.{_≡_};
 ghost use Rattle.routing.specs.Refusals.{told-by};
 ghost use Rattle.routing.specs.declared.refusal.Layer.the-variants.{File as FileLayer};
-ghost use Rattle.file.specs.Faults.{file-reason};
+ghost use Rattle.fault.specs.Faults.{file-reason};
 use routing::refusal::Layer;
 use routing::refusal::Refusal;
 use std::fmt;

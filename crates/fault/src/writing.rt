@@ -2,11 +2,11 @@
 ghost use mathlib.Core.Path.{_≡_};
 ghost use Rattle.routing.specs.Refusals.{told-by};
 ghost use Rattle.routing.specs.declared.refusal.Layer.the-variants.{Writer as WriterLayer};
-ghost use Rattle.writer.specs.Faults.{write-reason, write-of, rewrite-told};
-ghost use Rattle.writer.specs.declared.fault.RewriteFault.the-variants.{Read, Write};
-use file::fault::FileFault;
-use file::fault::FileFaultDebug;
-use file::fault::FileFaultDisplay;
+ghost use Rattle.fault.specs.Faults.{write-reason, write-of, rewrite-told};
+ghost use Rattle.fault.specs.declared.writing.RewriteFault.the-variants.{Read, Write};
+use crate::reading::FileFault;
+use crate::reading::FileFaultDebug;
+use crate::reading::FileFaultDisplay;
 use routing::refusal::Layer;
 use routing::refusal::Refusal;
 use routing::widths::WidthsFault;
