@@ -146,34 +146,37 @@ fn refusals_of_a_start() -> Result<(), Fail> {
     check_eq(start_told(&[8], 2, 34), (16, 35))
 }
 
+// A file for one rule of one field before its row, and before its decision.
+fn at_row(out: &mut [u8]) -> Result<RowStage, WriteFault> {
+    RowStage::start::<Queue>(&[8], 1, out)
+}
+
+fn at_decision(out: &mut [u8]) -> Result<DecisionStage, WriteFault> {
+    let stage = at_row(out)?;
+    turn(row(stage, out, 7, 7)?)
+}
+
+// The refusal of a row, tried with so many bytes of the buffer.
+fn row_told_in(room: usize, low: u32, high: u32) -> Result<(u8, usize), WriteFault> {
+    let mut out = [0u8; 26];
+    let stage = at_row(&mut out)?;
+    Ok(row_told(stage, &mut out[0..room.min(26)], low, high))
+}
+
 #[test]
 fn refusals_of_a_row() -> Result<(), Fail> {
+    check_eq(row_told_in(25, 7, 6)?, (16, 26)).note("the room goes first")?;
+    check_eq(row_told_in(26, 7, 6)?, (9, 1))?;
+    check_eq(row_told_in(26, 0, 256)?, (9, 1))?;
+    check_eq(row_told_in(26, 7, 7)?, (0, 0))
+}
+
+#[test]
+fn a_row_too_many_and_a_turn_too_early() -> Result<(), Fail> {
     let mut out = [0u8; 26];
-    check_eq(
-        row_told(
-            RowStage::start::<Queue>(&[8], 1, &mut out)?,
-            &mut [0u8; 25],
-            7,
-            6,
-        ),
-        (16, 26),
-    ).note("the room goes first")?;
-    check_eq(
-        row_told(RowStage::start::<Queue>(&[8], 1, &mut out)?, &mut out, 7, 6),
-        (9, 1),
-    )?;
-    check_eq(
-        row_told(
-            RowStage::start::<Queue>(&[8], 1, &mut out)?,
-            &mut out,
-            0,
-            256,
-        ),
-        (9, 1),
-    )?;
-    let full = row(RowStage::start::<Queue>(&[8], 1, &mut out)?, &mut out, 7, 7)?;
-    check_eq(row_told(full, &mut out, 7, 6), (17, 1)).note("a row too many goes before its ends")?;
-    match turn(RowStage::start::<Queue>(&[8], 1, &mut out)?) {
+    let full = row(at_row(&mut out)?, &mut out, 7, 7)?;
+    check_eq(row_told(full, &mut out, 7, 6), (17, 1)).note("one too many goes before its ends")?;
+    match turn(at_row(&mut out)?) {
         Ok(next) => {
             next.abandon();
             Err(Fail::new("a turn too early"))
@@ -185,17 +188,14 @@ fn refusals_of_a_row() -> Result<(), Fail> {
 #[test]
 fn refusals_of_a_decision() -> Result<(), Fail> {
     let mut out = [0u8; 26];
-    let first = turn(row(RowStage::start::<Queue>(&[8], 1, &mut out)?, &mut out, 7, 7)?)?;
-    check_eq(decision_told(first, &mut [0u8; 25]), (16, 26))?;
-    let second = turn(row(RowStage::start::<Queue>(&[8], 1, &mut out)?, &mut out, 7, 7)?)?;
-    check_eq(other_kind_told(second, &mut out), (4, 2))?;
-    let third = turn(row(RowStage::start::<Queue>(&[8], 1, &mut out)?, &mut out, 7, 7)?)?;
     check_eq(
-        other_kind_told(decision(third, &mut out, 5)?, &mut out),
-        (17, 1),
-    ).note("one too many goes before the kind")?;
-    let fourth = turn(row(RowStage::start::<Queue>(&[8], 1, &mut out)?, &mut out, 7, 7)?)?;
-    check_eq(length_told(end(fourth)), (17, 0)).note("an end too early")
+        decision_told(at_decision(&mut out)?, &mut [0u8; 25]),
+        (16, 26),
+    )?;
+    check_eq(other_kind_told(at_decision(&mut out)?, &mut out), (4, 2))?;
+    let full = decision(at_decision(&mut out)?, &mut out, 5)?;
+    check_eq(other_kind_told(full, &mut out), (17, 1)).note("one too many goes before the kind")?;
+    check_eq(length_told(end(at_decision(&mut out)?)), (17, 0)).note("an end too early")
 }
 
 #[test]

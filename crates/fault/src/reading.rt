@@ -56,31 +56,18 @@ impl FileFault {
 
 pub impl fmt::Display for FileFault as FileFaultDisplay {
     fn fmt<W: fmt::Write>(&self, f: &mut fmt::Formatter<W>) -> fmt::Result {
-        match self {
-            FileFault::Short(length) => write!(
-                f,
-                "the file has {length} bytes, and its header alone takes 16"
-            ),
-            FileFault::Fixed(place) => write!(
-                f,
-                "byte {place} is not what every file of edition 1 has there"
-            ),
-            FileFault::Fields => write!(f, "there are not 1 to 8 fields"),
-            FileFault::Kind => write!(f, "the decisions are of another kind"),
-            FileFault::Rules => write!(f, "there are more than 512 rules"),
-            FileFault::Offset(place) => write!(
-                f,
-                "the offset at byte {place} is not the one that the counts give"
-            ),
-            FileFault::Length(length) => write!(
-                f,
-                "the file has {length} bytes, and its counts give another length"
-            ),
-            FileFault::Width(place) => write!(f, "the width at byte {place} is not 1 to 32"),
-            FileFault::Ends(place) => write!(
-                f,
-                "the ends at byte {place} make no interval of their field"
-            ),
-        }
+        let words = match self {
+            FileFault::Short(_) => "the file is shorter than its header of 16 bytes",
+            FileFault::Fixed(_) => "a byte is not what every file of edition 1 has there",
+            FileFault::Fields => "there are not 1 to 8 fields",
+            FileFault::Kind => "the decisions are of another kind",
+            FileFault::Rules => "there are more than 512 rules",
+            FileFault::Offset(_) => "an offset is not the one that the counts give",
+            FileFault::Length(_) => "the length is not the one that the counts give",
+            FileFault::Width(_) => "a width is not 1 to 32",
+            FileFault::Ends(_) => "two ends make no interval of their field",
+        };
+        let place = self.refusal().place;
+        write!(f, "{words} (place {place})")
     }
 }

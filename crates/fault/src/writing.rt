@@ -55,21 +55,17 @@ impl WriteFault {
 
 pub impl fmt::Display for WriteFault as WriteFaultDisplay {
     fn fmt<W: fmt::Write>(&self, f: &mut fmt::Formatter<W>) -> fmt::Result {
-        match self {
-            WriteFault::Fields => write!(f, "there are not 1 to 8 fields"),
-            WriteFault::Width(field) => write!(f, "the width of field {field} is not 1 to 32"),
-            WriteFault::Rules => write!(f, "there are more than 512 rules"),
-            WriteFault::Room(needed) => write!(
-                f,
-                "the file needs {needed} bytes, and the buffer has fewer"
-            ),
-            WriteFault::Count(done) => write!(f, "a step too many or too early, after {done}"),
-            WriteFault::Kind => write!(f, "the decision is of another kind than the file"),
-            WriteFault::Ends(field) => write!(
-                f,
-                "the ends at field {field} make no interval of it"
-            ),
-        }
+        let words = match self {
+            WriteFault::Fields => "there are not 1 to 8 fields",
+            WriteFault::Width(_) => "the width of a field is not 1 to 32",
+            WriteFault::Rules => "there are more than 512 rules",
+            WriteFault::Room(_) => "the buffer is shorter than the file",
+            WriteFault::Count(_) => "a row or a decision too many, or a turn or an end too early",
+            WriteFault::Kind => "the decision is of another kind than the file",
+            WriteFault::Ends(_) => "two ends make no interval of their field",
+        };
+        let place = self.refusal().place;
+        write!(f, "{words} (place {place})")
     }
 }
 
