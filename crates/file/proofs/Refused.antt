@@ -13,6 +13,7 @@ use Rattle.file.specs.Layout.{file-refusal, header-refusal, body-refusal, coun
 use Rattle.std.specs.Options.{mapped}
 use Rattle.routing.specs.declared.ends.Ends.{Ends}
 use Rattle.routing.specs.Firsts.{first-some}
+use Rattle.routing.proofs.First.{mapped-none}
 use Rattle.routing.specs.Lawful.{widths-refusal, ends-refusal}
 
 module _ (bs : List ℕ) (code size : ℕ) where
@@ -37,10 +38,6 @@ settled true r o e = let z : _≡_ {A = ℕ} 0 1 = cc in absurd (omega arith)
 pub first-none : (p q : Option (ℕ × ℕ)) → first-of p q ≡ None → (p ≡ None) × (q ≡ None)
 first-none None q e = (refl, e)
 first-none (Some r) q e = let z : _≡_ {A = ℕ} 0 1 = cc in absurd (omega arith)
-
-pub mapped-none : {X Y : Type 0} (f : X → Y) (o : Option X) → mapped f o ≡ None → o ≡ None
-mapped-none f None e = refl
-mapped-none f (Some x) e = let z : _≡_ {A = ℕ} 0 1 = cc in absurd (omega arith)
 
 -- What a lawful header says, in plain numbers.
 pub record Header (bs : List ℕ) (code : ℕ) : Type 0 where

@@ -5,6 +5,7 @@ use native.Mathlib.Numerals.{add-one}
 use mathlib.Core.Path.{_≡_, refl, sym, ap, _∙_}
 use mathlib.Core.Logic.{⊎-elim}
 use mathlib.Core.Bool.{Bool, true, false}
+use Rattle.std.specs.Options.{mapped}
 use Rattle.std.specs.declared.option.Option.{Option}
 use Rattle.std.specs.declared.option.Option.the-variants.{Some, None}
 use Rattle.std.proofs.shelf.Tests.{cases-eq}
@@ -62,3 +63,8 @@ found bad n k h e b = ap Some (add-one k) ∙ sym (some-hit (λ j. broken (bad j
 -- each passes, so there is none
 pub none-from : (bad : ℕ → Bool) (place : ℕ → ℕ) (n : ℕ) → ((k : ℕ) → k < n → bad k ≡ false) → first-below bad place n ≡ None
 none-from bad place n h = none-all (λ j. broken (bad j) (place j)) n (λ k l. rw (h k l))
+
+-- what is mapped from none is none
+pub mapped-none : {X Y : Type 0} (f : X → Y) (o : Option X) → mapped f o ≡ None → o ≡ None
+mapped-none f None e = refl
+mapped-none f (Some x) e = let z : _≡_ {A = ℕ} 0 1 = cc in absurd (omega arith)

@@ -13,12 +13,8 @@ use Rattle.std.proofs.shelf.Lists.{getD-past}
 use Rattle.std.proofs.shelf.Tests.{cases-lt, cases-bool, or-parts, ltb-false}
 use Rattle.routing.specs.Packing.{packed, unpacked}
 use Rattle.routing.specs.Lawful.{Tested, outside, width-bad, width-refusal, widths-refusal}
-use Rattle.routing.proofs.First.{none-below}
+use Rattle.routing.proofs.First.{mapped-none, none-below}
 use Rattle.routing.proofs.Packs.{bytes-again}
-
-mapped-none : (o : Option ℕ) → mapped {U = ℕ × ℕ} (λ field. (8, field)) o ≡ None → o ≡ None
-mapped-none None e = refl
-mapped-none (Some x) e = let z : _≡_ {A = ℕ} 0 1 = cc in absurd (omega arith)
 
 -- widths that pass each test
 pub tested : (ws : List ℕ) → 1 ≤ length ws → length ws ≤ 8 → width-refusal ws ≡ None → Tested ws
@@ -44,5 +40,5 @@ widths-settled ws e =
     (λ (b : outside 1 8 (length ws) ≡ true). let z : _≡_ {A = ℕ} 0 1 = let h = rw b at e in cc in absurd (omega arith))
     (λ (b : outside 1 8 (length ws) ≡ false).
     let f = or-parts _ _ b in
-    (ltb-false _ _ (f .0), ltb-false _ _ (f .1), mapped-none (width-refusal ws) (rw b at e)))
+    (ltb-false _ _ (f .0), ltb-false _ _ (f .1), mapped-none _ (width-refusal ws) (rw b at e)))
     (cases-bool (outside 1 8 (length ws)))

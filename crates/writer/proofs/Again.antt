@@ -21,7 +21,7 @@ use Rattle.routing.specs.Refusals.{told-by}
 use Rattle.routing.specs.declared.refusal.Layer.the-variants.{Writer}
 use Rattle.routing.specs.Firsts.{first-some}
 use Rattle.routing.specs.Lawful.{widths-refusal, ends-refusal}
-use Rattle.routing.proofs.First.{none-all, some-none}
+use Rattle.routing.proofs.First.{mapped-none, none-all, some-none}
 use Rattle.file.specs.Layout.{byte, four, four-bytes, part, fields, rules, rows-at, low-at, decisions-at, file-length, width-bytes, pair, no-ends, row-of, row-place, first-of, file-refusal}
 use Rattle.writer.specs.Stages.{ends-bytes, row-bytes, head-bytes, room-refusal, start-refusal, put, changed}
 use Rattle.file.specs.Contents.{blank, rows-of, decision-bytes, decisions-of}
@@ -30,7 +30,7 @@ use Rattle.writer.proofs.Joins.{joined-parts}
 use Rattle.writer.proofs.Numbers.{Bytes, four-again, ends-again, part-cells, part-bytes}
 use Rattle.file.proofs.Parts.{part-more, length-part}
 use Rattle.writer.proofs.Rooms.{eight-times, decision-room}
-use Rattle.file.proofs.Refused.{Header, Counts, mapped-none, file-says}
+use Rattle.file.proofs.Refused.{Header, Counts, file-says}
 
 first-last : (o : Option (ℕ × ℕ)) → first-of o None ≡ o
 first-last None = refl
