@@ -17,5 +17,5 @@ front_copied bs out n e =
     (cases_lt (length bs) (length out))
 
 -- bytes that fill the buffer
-pub front-whole : (bs out : List ℕ) → length out ≡ length bs → front bs out ≡ bs
-front-whole bs out e = rw (take_all (length out) bs (omega arith), drop_all (length bs) out (omega arith)) (append-nil bs)
+pub front_whole : (bs out : List ℕ) → length out ≡ length bs → front bs out ≡ bs
+front_whole bs out e = rw (take_all (length out) bs (omega arith), drop_all (length bs) out (omega arith)) (append-nil bs)

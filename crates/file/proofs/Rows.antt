@@ -31,8 +31,8 @@ given_all f k d row g same =
     fill_by_all (λ j. cond (ltb j d) (f j) no_ends) row 8 no_ends g.0 (λ j h. g.1 j h ∙ ap (λ b. cond b (f j) no_ends) (same j h))
 
 -- pairs that are the same as far as they count
-pub eight-same : (d : ℕ) (f g : ℕ → Ends) → ((k : ℕ) → k < d → f k ≡ g k) → eight d f ≡ eight d g
-eight-same d f g same =
+pub eight_same : (d : ℕ) (f g : ℕ → Ends) → ((k : ℕ) → k < d → f k ≡ g k) → eight d f ≡ eight d g
+eight_same d f g same =
     fill_by_all (λ j. cond (ltb j d) (g j) no_ends) (eight d f) 8 no_ends refl
     (λ k h.
     get_or-map-range_with_len (λ j. cond (ltb j d) (f j) no_ends) 0 8 k k no_ends h (omega arith)

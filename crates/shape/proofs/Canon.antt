@@ -11,8 +11,8 @@ use Rattle.routing.specs.Rules.{holds}
 use Rattle.routing.specs.Space.{at, put, cuts}
 use Rattle.shape.specs.Shapes.{Shape, bare, part, rule, cut_above, gaps, under, ready, add_mark, insert}
 use Rattle.shape.specs.Meaning.{Sound}
-use Rattle.shape.proofs.Cuts.{In, Up, up_in, Cut, cut_more, cut_out, first_cut, put_up, put_in, in_put, put_only, put-swap}
-use Rattle.shape.proofs.Runs.{runs, Level, Low, Near, filled, deeper, between, cut-runs, above-runs, gaps-all, under-runs, runs_same}
+use Rattle.shape.proofs.Cuts.{In, Up, up_in, Cut, cut_more, cut_out, first_cut, put_up, put_in, in_put, put_only, put_swap}
+use Rattle.shape.proofs.Runs.{runs, Level, Low, Near, filled, deeper, between, cut_runs, above_runs, gaps_all, under_runs, runs_same}
 
 -- a rule's ends, with its number
 abbrev pub Numbered : Type 0
@@ -83,19 +83,19 @@ ends_cuts m (r ∷ T) = (
 )
 
 -- a rule more is two cuts more
-pub cuts-push :
+pub cuts_push :
     (m : ℕ) (T : List (List Ends)) (r : List Ends)
     → cuts m (T ++ r ∷ []) ≡ put ((at r m).high + 1) (put (at r m).low (cuts m T))
-cuts-push m [] r = put-swap (at r m).low ((at r m).high + 1) []
-cuts-push m (s ∷ T) r =
+cuts_push m [] r = put_swap (at r m).low ((at r m).high + 1) []
+cuts_push m (s ∷ T) r =
     let l = (at r m).low in
     let h = (at r m).high + 1 in
     let a = (at s m).low in
     let b = (at s m).high + 1 in
     let C = cuts m T in
-    ap (λ c. put a (put b c)) (cuts-push m T r)
-    ∙ ap (put a) (put-swap b h _ ∙ ap (put h) (put-swap b l C))
-    ∙ put-swap a h _ ∙ ap (put h) (put-swap a l _)
+    ap (λ c. put a (put b c)) (cuts_push m T r)
+    ∙ ap (put a) (put_swap b h _ ∙ ap (put h) (put_swap b l C))
+    ∙ put_swap a h _ ∙ ap (put h) (put_swap a l _)
 
 -- tests that agree keep the same rules
 pub kept_same : (p q : Numbered → Bool) (T : List Numbered) → All (λ r. p r ≡ q r) T → filter p T ≡ filter q T
@@ -231,17 +231,17 @@ module _ (m : ℕ) (T : List Numbered) (G : List Numbered → Shape) (l h : ℕ)
       let few₁ : (c : ℕ) → In c C₁ → c ≤ 0x1_0000_0000 = λ c i. ⊎_elim (λ z. omega arith) (few m T w c) (put_only c l C i) in
       let near₂ : Near P l h C₂ =
       λ c i k q. ⊎_elim (λ z. absurd (omega arith)) (λ j. ⊎_elim (λ z. absurd (omega arith)) (near m T w c) (put_only c l C j)) (put_only c (h + 1) C₁ i) in
-      ap (λ sh. under l h f (gaps l h (cut_above h sh))) (cut-runs P B l C u (level m T G C u e) (low m T C e))
-      ∙ ap (λ sh. under l h f (gaps l h sh)) (above-runs P B h C₁ u₁ (level m T G C₁ u₁ e₁) (low m T C₁ e₁) few₁)
+      ap (λ sh. under l h f (gaps l h (cut_above h sh))) (cut_runs P B l C u (level m T G C u e) (low m T C e))
+      ∙ ap (λ sh. under l h f (gaps l h sh)) (above_runs P B h C₁ u₁ (level m T G C₁ u₁ e₁) (low m T C₁ e₁) few₁)
       ∙ ap (under l h f)
-      (gaps-all P B l h C₂ lh.0 (λ x t. ap G (some_none _ t) ∙ none) u₂ (level m T G C₂ u₂ e₂) near₂
+      (gaps_all P B l h C₂ lh.0 (λ x t. ap G (some_none _ t) ∙ none) u₂ (level m T G C₂ u₂ e₂) near₂
       (in_put l (h + 1) C₁ (put_in l C)) (put_in (h + 1) C₁))
-      ∙ under-runs (filled P l h) B l h f C₂ u₂ (put_in (h + 1) C₁)
+      ∙ under_runs (filled P l h) B l h f C₂ u₂ (put_in (h + 1) C₁)
 
 -- a rule more is a mark more
-cell-push : (T : List Numbered) (r : Numbered) → add_mark (number r) (cell T) ≡ cell (T ++ r ∷ [])
-cell-push [] r = refl
-cell-push (s ∷ T) r = ap (part (rule (number s)) bare) (cell-push T r)
+cell_push : (T : List Numbered) (r : Numbered) → add_mark (number r) (cell T) ≡ cell (T ++ r ∷ [])
+cell_push [] r = refl
+cell_push (s ∷ T) r = ap (part (rule (number s)) bare) (cell_push T r)
 
 -- no rules, no tree
 pub canon_none : (k m : ℕ) → canon k m [] ≡ bare
@@ -253,11 +253,11 @@ held_push : (m x : ℕ) (T : List Numbered) (r : Numbered) → held m x (T ++ r 
 held_push m x T r = filter-append (λ r. holds (field m r) x) T (r ∷ [])
 
 -- One rule more makes the tree the tree of one rule more.
-pub insert-canon :
+pub insert_canon :
     (d k m : ℕ) (r : Numbered) (T : List Numbered) → m + k ≡ d → Whole d r → All (Whole d) T
     → insert (take k (drop m (ends r))) (number r) (canon k m T) ≡ canon k m (T ++ r ∷ [])
-insert-canon d zero m r T e w ws = cell-push T r
-insert-canon d (suc k) m r T e w ws =
+insert_canon d zero m r T e w ws = cell_push T r
+insert_canon d (suc k) m r T e w ws =
     let G = canon k (suc m) in
     let here : m < d = omega arith in
     let l = (field m r).low in
@@ -270,9 +270,9 @@ insert-canon d (suc k) m r T e w ws =
     (λ a. some_push (held m a T) r (between l h a) ∙ ap some (sym (held_push m a T r)))
     (λ a.
     let H = held m a T in
-    let ih : f (G H) ≡ G (H ++ r ∷ []) = insert-canon d k (suc m) r H (omega arith) w (all_kept_by _ (Whole d) T ws) in
+    let ih : f (G H) ≡ G (H ++ r ∷ []) = insert_canon d k (suc m) r H (omega arith) w (all_kept_by _ (Whole d) T ws) in
     let wide : deeper (beneath m T G) l h f a ≡ G (H ++ cond (between l h a) (r ∷ []) []) =
     elim (between l h a) as (λ t. cond t (f (G H)) (G H) ≡ G (H ++ cond t (r ∷ []) [])) [ true ↦ ih | false ↦ ap G (sym (append-nil H)) ] in
     wide ∙ ap G (sym (held_push m a T r)))
     (put (h + 1) (put l (cuts_of m T)))
-    ∙ ap (runs (passes m (T ++ r ∷ [])) (beneath m (T ++ r ∷ []) G)) (sym (cuts-push m (map ends T) (ends r)) ∙ ap (cuts m) (sym (map_push ends T r)))
+    ∙ ap (runs (passes m (T ++ r ∷ [])) (beneath m (T ++ r ∷ []) G)) (sym (cuts_push m (map ends T) (ends r)) ∙ ap (cuts m) (sym (map_push ends T r)))

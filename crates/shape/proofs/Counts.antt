@@ -11,7 +11,7 @@ use Rattle.shape.specs.Meaning.{SpaceIsExact}
 use Rattle.shape.proofs.Cuts.{Up}
 use Rattle.shape.proofs.Runs.{runs}
 use Rattle.shape.proofs.Canon.{Numbered, ends, field, held, some, cell, canon, cuts_of, cuts_up, Ended, ends_cuts, Fenced, Apart, fenced, fenced_more, apart, kept_same}
-use Rattle.shape.proofs.Grown.{numbered, grown-canon}
+use Rattle.shape.proofs.Grown.{numbered, grown_canon}
 
 -- the ends of the rules that pass are those that pass
 kept_map : (q : List Ends → Bool) (T : List Numbered) → map ends (filter (λ r. q (ends r)) T) ≡ filter q (map ends T)
@@ -24,24 +24,24 @@ kept_map q (r ∷ T) =
 -- The rules that hold the first number of a run hold all of it.
 module _ (m : ℕ) (T : List Numbered) (F : List (List Ends) → ℕ) where
   -- from any cut on
-  over-from :
+  over_from :
       (a : ℕ) (cs : List ℕ) → Up a (a ∷ cs) → All (Fenced m a cs) T
       → over (λ a b. F (map ends (held m a T))) (a ∷ cs) ≡ over (λ a b. F (holding m a b (map ends T))) (a ∷ cs)
-  over-from a [] u e = refl
-  over-from a (b ∷ cs) u e =
+  over_from a [] u e = refl
+  over_from a (b ∷ cs) u e =
       let up : Up b (b ∷ cs) = (omega arith, u.1.1) in
       let lt : a < b = omega arith in
       let all : List Ends → Bool = λ r. leb (at r m).low a && leb b ((at r m).high + 1) in
       let same : held m a T ≡ filter (λ r. all (ends r)) T =
       kept_same _ _ T (All_weaker (Apart m a b) (λ r. holds (field m r) a ≡ all (ends r)) (λ r i. grind (arith, nat_tests)) T (apart m T a b cs up e)) in
-      ap₂ (λ x y. x + y) (ap (λ l. F (map ends l)) same ∙ ap F (kept_map all T)) (over-from b cs up (fenced_more m T a b cs lt e))
+      ap₂ (λ x y. x + y) (ap (λ l. F (map ends l)) same ∙ ap F (kept_map all T)) (over_from b cs up (fenced_more m T a b cs lt e))
 
   -- a sum over runs is the sum over pieces
-  over-same :
+  over_same :
       (cs : List ℕ) → Up 0 cs → All (Ended m cs) T
       → over (λ a b. F (map ends (held m a T))) cs ≡ over (λ a b. F (holding m a b (map ends T))) cs
-  over-same [] u e = refl
-  over-same (a ∷ cs) u e = over-from a cs (omega arith, u.1) (fenced m T a cs e)
+  over_same [] u e = refl
+  over_same (a ∷ cs) u e = over_from a cs (omega arith, u.1) (fenced m T a cs e)
 
 -- a size that adds over the branches of a node, each of which counts for `one` of what is below
 sum_runs :
@@ -58,9 +58,9 @@ sum_runs size one none more p g f e (a ∷ (b ∷ cs)) =
     sum ∙ ap₂ (λ x y. x + y) (e a) (sum_runs size one none more p g f e (b ∷ cs))
 
 -- a cell has no branches
-branches-cell : (T : List Numbered) → branches_of (cell T) ≡ 0
-branches-cell [] = refl
-branches-cell (r ∷ T) = omega (arith, branches-cell T)
+branches_cell : (T : List Numbered) → branches_of (cell T) ≡ 0
+branches_cell [] = refl
+branches_cell (r ∷ T) = omega (arith, branches_cell T)
 
 -- and a mark for each rule
 marks_cell : (T : List Numbered) → marks_of (cell T) ≡ length (map ends T)
@@ -84,13 +84,13 @@ counted_marks k m (r ∷ T) = refl
 
 -- the branches of the tree of rules
 branches_canon : (k m : ℕ) (T : List Numbered) → branches_of (canon k m T) ≡ branches k m (map ends T)
-branches_canon zero m T = branches-cell T
+branches_canon zero m T = branches_cell T
 branches_canon (suc k) m T =
     let F : List (List Ends) → ℕ = λ L. one_more L (branches k (suc m) L) in
     sum_runs branches_of (λ s. suc (branches_of s)) refl (λ a b s r. omega arith) _ _ (λ a. F (map ends (held m a T)))
     (λ a. ap (λ n. cond (some (held m a T)) (suc n) 0) (branches_canon k (suc m) (held m a T)) ∙ counted (held m a T) _)
     (cuts_of m T)
-    ∙ over-same m T F (cuts_of m T) (cuts_up m T) (ends_cuts m T)
+    ∙ over_same m T F (cuts_of m T) (cuts_up m T) (ends_cuts m T)
 
 -- and its marks
 marks_canon : (k m : ℕ) (T : List Numbered) → marks_of (canon k m T) ≡ marks k m (map ends T)
@@ -100,7 +100,7 @@ marks_canon (suc k) m T =
     sum_runs marks_of marks_of refl (λ a b s r. omega arith) _ _ (λ a. F (map ends (held m a T)))
     (λ a. ap (λ n. cond (some (held m a T)) n 0) (marks_canon k (suc m) (held m a T)) ∙ counted_marks k (suc m) (held m a T))
     (cuts_of m T)
-    ∙ over-same m T F (cuts_of m T) (cuts_up m T) (ends_cuts m T)
+    ∙ over_same m T F (cuts_of m T) (cuts_up m T) (ends_cuts m T)
 
 -- rules without their numbers again
 ends_numbered : (n : ℕ) (T : List (List Ends)) → map ends (numbered n T) ≡ T
@@ -110,7 +110,7 @@ ends_numbered n (r ∷ T) = ap (λ l. r ∷ l) (ends_numbered (suc n) T)
 -- THE SPACE: the tree takes what the rules need
 pub space_exact : SpaceIsExact
 space_exact d T ok =
-    let e = grown-canon d T ok in
+    let e = grown_canon d T ok in
     let s = ends_numbered 1 T in (
       ap branches_of e ∙ branches_canon d 0 (numbered 1 T) ∙ ap (branches d 0) s,
       ap marks_of e ∙ marks_canon d 0 (numbered 1 T) ∙ ap (marks d 0) s,

@@ -72,6 +72,6 @@ put_only e x (c ∷ cs) i =
     (λ _. ⊎_elim (λ q. inr (inl q)) (λ j. ⊎_elim inl (λ k. inr (inr k)) (put_only e x cs j))) i
 
 -- which of two goes in first does not matter
-pub put-swap : (x y : ℕ) (cs : List ℕ) → put x (put y cs) ≡ put y (put x cs)
-put-swap x y [] = grind (arith, nat_tests)
-put-swap x y (c ∷ cs) = let h = put-swap x y cs in grind (arith, nat_tests)
+pub put_swap : (x y : ℕ) (cs : List ℕ) → put x (put y cs) ≡ put y (put x cs)
+put_swap x y [] = grind (arith, nat_tests)
+put_swap x y (c ∷ cs) = let h = put_swap x y cs in grind (arith, nat_tests)

@@ -11,7 +11,7 @@ use Rattle.shape.specs.Meaning.{Proper, branch_at, onward, reached, marks_in, Lo
 use Rattle.shape.proofs.Cuts.{Up}
 use Rattle.shape.proofs.Runs.{runs, Level, Low}
 use Rattle.shape.proofs.Canon.{Numbered, ends, field, held, some, some_none, cell, canon, cuts_of, cuts_up, ends_cuts, kept_same, level, low, number, passes, beneath, Whole}
-use Rattle.shape.proofs.Grown.{numbered, grown-canon, all_whole}
+use Rattle.shape.proofs.Grown.{numbered, grown_canon, all_whole}
 
 -- a branch that does not hold v
 pub past : (v a b : ℕ) (below rest : Shape) → (a ≤ v → b < v) → branch_at v (part (piece a b) below rest) ≡ branch_at v rest
@@ -69,9 +69,9 @@ kept_both p q (r ∷ T) =
     [ true ↦ ap (λ l. cond (q r) (r ∷ l) l) (kept_both p q T) | false ↦ kept_both p q T ]
 
 -- a test that every rule passes
-kept-all : (T : List Numbered) → filter (λ _. true) T ≡ T
-kept-all [] = refl
-kept-all (r ∷ T) = ap (λ l. r ∷ l) (kept-all T)
+kept_all : (T : List Numbered) → filter (λ _. true) T ≡ T
+kept_all [] = refl
+kept_all (r ∷ T) = ap (λ l. r ∷ l) (kept_all T)
 
 -- what is found for the rules L, of which there is one where there was one at all
 abbrev Found : Option Shape → (L T : List Numbered) → Type 0
@@ -83,13 +83,13 @@ found_less None L H T t f = f
 found_less (Some c) L H T t f = (f.0, λ _. f.1 t)
 
 -- The cell that values reach in the tree of rules is that of the rules that match.
-found-canon :
+found_canon :
     (d k m : ℕ) (vs : List ℕ) (T : List Numbered) → m + k ≡ d → k ≤ length vs → All (Whole d) T
     → Found (reached (take k vs) (canon k m T)) (filter (meant k m vs) T) T
-found-canon d zero m vs T e l w =
-    let all = sym (kept-all T) in (ap cell all, λ t. rw (kept-all T) t)
-found-canon d (suc k) m [] T e l w = absurd (omega arith)
-found-canon d (suc k) m (v ∷ vs) T e l w =
+found_canon d zero m vs T e l w =
+    let all = sym (kept_all T) in (ap cell all, λ t. rw (kept_all T) t)
+found_canon d (suc k) m [] T e l w = absurd (omega arith)
+found_canon d (suc k) m (v ∷ vs) T e l w =
     let here : m < d = omega arith in
     let G = canon k (suc m) in
     let H = held m v T in
@@ -104,7 +104,7 @@ found-canon d (suc k) m (v ∷ vs) T e l w =
     at_runs (passes m T) (beneath m T G) v C (cuts_up m T) (level m T G C (cuts_up m T) (ends_cuts m T)) (low m T C (ends_cuts m T)) in
     rw (step, found)
     (cond_both (some H) (Some (G H)) None (λ o. Found (onward (reached (take k vs)) o) M T)
-    (λ t. found_less (reached (take k vs) (G H)) M H T t (found-canon d k (suc m) vs H (omega arith) (omega arith) (all_kept_by _ (Whole d) T w)))
+    (λ t. found_less (reached (take k vs) (G H)) M H T t (found_canon d k (suc m) vs H (omega arith) (omega arith) (all_kept_by _ (Whole d) T w)))
     (λ t. ap (filter (meant k (suc m) vs)) (some_none H t)))
 
 -- the marks of a cell are the numbers of its rules
@@ -140,7 +140,7 @@ pub look_up :
     (λ c. (marks_in c ≡ matching d 1 T v) × (some (numbered 1 T) ≡ true → marks_in c ≡ [] → ⊥))
 look_up d T ok v l =
     let N = numbered 1 T in
-    rw (grown-canon d T ok) (read _ (filter (meant d 0 v) N) N _ (numbers d 1 T v) (found-canon d d 0 v N (omega arith) l (all_whole d 1 T ok)))
+    rw (grown_canon d T ok) (read _ (filter (meant d 0 v) N) N _ (numbers d 1 T v) (found_canon d d 0 v N (omega arith) l (all_whole d 1 T ok)))
 
 -- the first of two facts of what is there
 first_of : {X : Type 0} (o : Option X) (P : Type 0) (Q R : X → Type 0) → MatchOption o P (λ x. Q x × R x) → MatchOption o P Q

@@ -6,7 +6,7 @@ use Rattle.std.proofs.ByRecursion.{All-push, All-get_or}
 use Rattle.routing.specs.declared.ends.Ends.{Ends}
 use Rattle.shape.specs.Shapes.{Shape, insert, grown_from, grown}
 use Rattle.shape.specs.Meaning.{Sound, Proper, GrownMore}
-use Rattle.shape.proofs.Canon.{Numbered, Whole, canon, canon_none, insert-canon}
+use Rattle.shape.proofs.Canon.{Numbered, Whole, canon, canon_none, insert_canon}
 
 -- rules with their numbers, from n
 abbrev pub numbered : ℕ → List (List Ends) → List Numbered
@@ -26,29 +26,29 @@ all_whole d n [] ok = tt
 all_whole d n (r ∷ T) ok = (whole d n r ok.0, all_whole d (suc n) T ok.1)
 
 -- rules grown into the tree of rules before them
-from-canon :
+from_canon :
     (d n : ℕ) (T : List (List Ends)) (U : List Numbered) → All (Proper d) T → All (Whole d) U
     → grown_from d n T (canon d 0 U) ≡ canon d 0 (U ++ numbered n T)
-from-canon d n [] U ok w = ap (canon d 0) (sym (append-nil U))
-from-canon d n (r ∷ T) U ok w =
+from_canon d n [] U ok w = ap (canon d 0) (sym (append-nil U))
+from_canon d n (r ∷ T) U ok w =
     let all = whole d n r ok.0 in
-    ap (grown_from d (suc n) T) (insert-canon d d 0 (n, r) U (omega arith) all w)
-    ∙ from-canon d (suc n) T (U ++ (n, r) ∷ []) ok.1 (All-push (Whole d) U (n, r) w all)
+    ap (grown_from d (suc n) T) (insert_canon d d 0 (n, r) U (omega arith) all w)
+    ∙ from_canon d (suc n) T (U ++ (n, r) ∷ []) ok.1 (All-push (Whole d) U (n, r) w all)
     ∙ ap (canon d 0) (append_assoc U ((n, r) ∷ []) (numbered (suc n) T))
 
 -- The grown tree is that of its rules.
-pub grown-canon : (d : ℕ) (T : List (List Ends)) → All (Proper d) T → grown d T ≡ canon d 0 (numbered 1 T)
-grown-canon d T ok = ap (grown_from d 1 T) (sym (canon_none d 0)) ∙ from-canon d 1 T [] ok tt
+pub grown_canon : (d : ℕ) (T : List (List Ends)) → All (Proper d) T → grown d T ≡ canon d 0 (numbered 1 T)
+grown_canon d T ok = ap (grown_from d 1 T) (sym (canon_none d 0)) ∙ from_canon d 1 T [] ok tt
 
 -- one rule more, from any number on
-from-push :
+from_push :
     (d n : ℕ) (T : List (List Ends)) (r : List Ends) (sh : Shape)
     → grown_from d n (T ++ r ∷ []) sh ≡ insert (take d r) (length T + n) (grown_from d n T sh)
-from-push d n [] r sh = ap (λ i. insert (take d r) i sh) (omega arith)
-from-push d n (s ∷ T) r sh =
+from_push d n [] r sh = ap (λ i. insert (take d r) i sh) (omega arith)
+from_push d n (s ∷ T) r sh =
     let next = insert (take d s) n sh in
-    from-push d (suc n) T r next ∙ ap (λ i. insert (take d r) i (grown_from d (suc n) T next)) (omega arith)
+    from_push d (suc n) T r next ∙ ap (λ i. insert (take d r) i (grown_from d (suc n) T next)) (omega arith)
 
 -- ONE RULE MORE is inserted last
 pub grown_more_lem : GrownMore
-grown_more_lem d T r = from-push d 1 T r _
+grown_more_lem d T r = from_push d 1 T r _

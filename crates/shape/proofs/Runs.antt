@@ -14,15 +14,15 @@ runs p g (a ∷ []) = bare
 runs p g (a ∷ (b ∷ cs)) = cond (p a) (part (piece a (b - 1)) (g a) (runs p g (b ∷ cs))) (runs p g (b ∷ cs))
 
 -- the first run is a branch
-pub runs-yes :
+pub runs_yes :
     (p : ℕ → Bool) (g : ℕ → Shape) (a b : ℕ) (cs : List ℕ) → p a ≡ true
     → runs p g (a ∷ b ∷ cs) ≡ part (piece a (b - 1)) (g a) (runs p g (b ∷ cs))
-runs-yes p g a b cs t = cond-true _ _ _ t
+runs_yes p g a b cs t = cond-true _ _ _ t
 
 -- the first run is none
-pub runs-no :
+pub runs_no :
     (p : ℕ → Bool) (g : ℕ → Shape) (a b : ℕ) (cs : List ℕ) → p a ≡ false → runs p g (a ∷ b ∷ cs) ≡ runs p g (b ∷ cs)
-runs-no p g a b cs t = cond-false _ _ _ t
+runs_no p g a b cs t = cond-false _ _ _ t
 
 -- Within a run p and g do not change, and nothing passes p from the last cut on.
 abbrev pub Level : (ℕ → Bool) → (ℕ → Shape) → List ℕ → Type 0
@@ -35,80 +35,80 @@ abbrev pub Low : (ℕ → Bool) → List ℕ → Type 0
 Low p cs = (x lo : ℕ) → x < lo → Up lo cs → p x ≡ false
 
 -- a cut outside a branch goes on to the rest
-pub cut-past :
+pub cut_past :
     (x a b : ℕ) (below rest : Shape) → (a < x → b < x)
     → cut_at x (part (piece a b) below rest) ≡ part (piece a b) below (cut_at x rest)
-cut-past x a b below rest out = let e : (ltb a x && leb x b) ≡ false = grind (arith, nat_tests) in cond-false _ _ _ e
+cut_past x a b below rest out = let e : (ltb a x && leb x b) ≡ false = grind (arith, nat_tests) in cond-false _ _ _ e
 
 -- a cut inside a branch
-pub cut-here :
+pub cut_here :
     (x a b : ℕ) (below rest : Shape) → a < x → x ≤ b
     → cut_at x (part (piece a b) below rest) ≡ part (piece a (x - 1)) below (part (piece x b) below rest)
-cut-here x a b below rest l h = cond-true _ _ _ (and_from _ _ (lt-ltb a x l) (le-leb x b h))
+cut_here x a b below rest l h = cond-true _ _ _ (and_from _ _ (lt-ltb a x l) (le-leb x b h))
 
 module _ (p : ℕ → Bool) (g : ℕ → Shape) where
   -- a cut that is not in the first run
-  cut-next :
+  cut_next :
       (x a b : ℕ) (cs cs' : List ℕ) → a < b → (a < x → b ≤ x) → cut_at x (runs p g (b ∷ cs)) ≡ runs p g (b ∷ cs')
       → cut_at x (runs p g (a ∷ b ∷ cs)) ≡ runs p g (a ∷ b ∷ cs')
-  cut-next x a b cs cs' l out e =
+  cut_next x a b cs cs' l out e =
       let R = runs p g (b ∷ cs) in
       let R' = runs p g (b ∷ cs') in
       let node : Shape → Shape = part (piece a (b - 1)) (g a) in
       elim (p a) as (λ t. cut_at x (cond t (node R) R) ≡ cond t (node R') R')
-      [ true ↦ cut-past x a (b - 1) (g a) R (λ k. omega (arith, out k)) ∙ ap node e | false ↦ e ]
+      [ true ↦ cut_past x a (b - 1) (g a) R (λ k. omega (arith, out k)) ∙ ap node e | false ↦ e ]
 
   -- a cut before the first one, or at it
   cut_low : (x a : ℕ) (cs : List ℕ) → x ≤ a → Up a (a ∷ cs) → cut_at x (runs p g (a ∷ cs)) ≡ runs p g (a ∷ cs)
   cut_low x a [] l u = refl
   cut_low x a (b ∷ cs) l u =
-      cut-next x a b cs cs (omega arith) (λ k. omega arith) (cut_low x b cs (omega arith) (omega arith, u.1.1))
+      cut_next x a b cs cs (omega arith) (λ k. omega arith) (cut_low x b cs (omega arith) (omega arith, u.1.1))
 
   -- a cut within the first run
-  cut-first :
+  cut_first :
       (x a b : ℕ) (cs : List ℕ) → a < x → x < b → Up b (b ∷ cs) → (p x ≡ p a) × (g x ≡ g a)
       → cut_at x (runs p g (a ∷ b ∷ cs)) ≡ runs p g (a ∷ x ∷ b ∷ cs)
-  cut-first x a b cs l h u v =
+  cut_first x a b cs l h u v =
       let R = runs p g (b ∷ cs) in
       let old : Shape → Shape = part (piece a (b - 1)) (g a) in
       let left : Shape → Shape = part (piece a (x - 1)) (g a) in
       let right : Shape → Shape = part (piece x (b - 1)) (g a) in
       rw (v.0, v.1)
       (elim (p a) as (λ t. cut_at x (cond t (old R) R) ≡ cond t (left (cond t (right R) R)) (cond t (right R) R))
-      [ true ↦ cut-here x a (b - 1) (g a) R l (omega arith) | false ↦ cut_low x b cs (omega arith) u ])
+      [ true ↦ cut_here x a (b - 1) (g a) R l (omega arith) | false ↦ cut_low x b cs (omega arith) u ])
 
   -- a cut from the first one on
-  cut-from :
+  cut_from :
       (x a : ℕ) (cs : List ℕ) → a ≤ x → Up a (a ∷ cs) → Level p g (a ∷ cs)
       → cut_at x (runs p g (a ∷ cs)) ≡ runs p g (put x (a ∷ cs))
-  cut-from x a [] l u v =
+  cut_from x a [] l u v =
       put_ways (λ l. bare ≡ runs p g l) x a [] (λ k. absurd (omega arith)) (λ _. refl) (λ _. sym (cond-false _ _ _ (v a (omega arith))))
-  cut-from x a (b ∷ cs) l u v =
+  cut_from x a (b ∷ cs) l u v =
       put_ways (λ l. cut_at x (runs p g (a ∷ b ∷ cs)) ≡ runs p g l) x a (b ∷ cs) (λ k. absurd (omega arith))
       (λ e. cut_low x a (b ∷ cs) (omega arith) u)
-      (λ k. ⊎_elim (λ h. rw (put_before x b cs h) (cut-first x a b cs k h (omega arith, u.1.1) (v.0 x l h)))
+      (λ k. ⊎_elim (λ h. rw (put_before x b cs h) (cut_first x a b cs k h (omega arith, u.1.1) (v.0 x l h)))
       (λ h. put_ways (λ l. cut_at x (runs p g (b ∷ cs)) ≡ runs p g l → cut_at x (runs p g (a ∷ b ∷ cs)) ≡ runs p g (a ∷ l)) x b cs
       (λ k. absurd (omega arith))
-      (λ _. cut-next x a b cs cs (omega arith) (λ _. h))
-      (λ _. cut-next x a b cs (put x cs) (omega arith) (λ _. h))
-      (cut-from x b cs h (omega arith, u.1.1) v.1))
+      (λ _. cut_next x a b cs cs (omega arith) (λ _. h))
+      (λ _. cut_next x a b cs (put x cs) (omega arith) (λ _. h))
+      (cut_from x b cs h (omega arith, u.1.1) v.1))
       (cases_lt x b))
 
   -- A cut of the node is a cut more in the list.
-  pub cut-runs :
+  pub cut_runs :
       (x : ℕ) (cs : List ℕ) → Up 0 cs → Level p g cs → Low p cs
       → cut_at x (runs p g cs) ≡ runs p g (put x cs)
-  cut-runs x [] u v low = refl
-  cut-runs x (a ∷ cs) u v low =
+  cut_runs x [] u v low = refl
+  cut_runs x (a ∷ cs) u v low =
       ⊎_elim
       (λ l. cut_low x a cs (omega arith) (omega arith, u.1) ∙ sym (cond-false _ _ _ (low x a l (omega arith, u.1))) ∙ ap (runs p g) (sym (put_before x a cs l)))
-      (λ l. cut-from x a cs l (omega arith, u.1) v) (cases_lt x a)
+      (λ l. cut_from x a cs l (omega arith, u.1) v) (cases_lt x a)
 
   -- a cut past the last one
   cut_high : (x a : ℕ) (cs : List ℕ) → Up a (a ∷ cs) → ((c : ℕ) → In c cs → c ≤ x) → cut_at x (runs p g (a ∷ cs)) ≡ runs p g (a ∷ cs)
   cut_high x a [] u few = refl
   cut_high x a (b ∷ cs) u few =
-      cut-next x a b cs cs (omega arith) (λ _. few b (inl refl)) (cut_high x b cs (omega arith, u.1.1) (λ c i. few c (inr i)))
+      cut_next x a b cs cs (omega arith) (λ _. few b (inl refl)) (cut_high x b cs (omega arith, u.1.1) (λ c i. few c (inr i)))
 
   -- so it changes nothing, whatever the cuts are
   cut_none : (x : ℕ) (cs : List ℕ) → Up 0 cs → ((c : ℕ) → In c cs → c ≤ x) → cut_at x (runs p g cs) ≡ runs p g cs
@@ -116,11 +116,11 @@ module _ (p : ℕ → Bool) (g : ℕ → Shape) where
   cut_none x (a ∷ cs) u few = cut_high x a cs (omega arith, u.1) (λ c i. few c (inr i))
 
   -- A cut above a number is a cut more, also where the number is the last one.
-  pub above-runs :
+  pub above_runs :
       (h : ℕ) (cs : List ℕ) → Up 0 cs → Level p g cs → Low p cs → ((c : ℕ) → In c cs → c ≤ 0x1_0000_0000)
       → cut_above h (runs p g cs) ≡ runs p g (put (h + 1) cs)
-  above-runs h cs u v low few =
-      let e = cut-runs (h + 1) cs u v low in
+  above_runs h cs u v low few =
+      let e = cut_runs (h + 1) cs u v low in
       cond_both (eqb h 0xffff_ffff) (runs p g cs) (cut_at (h + 1) (runs p g cs)) (λ sh. sh ≡ runs p g (put (h + 1) cs))
       (λ t. sym (cut_none (h + 1) cs u (λ c i. omega (arith, few c i, eqb-true h 0xffff_ffff t))) ∙ e) (λ _. e)
 
@@ -142,10 +142,10 @@ gaps_over w v h a b below rest l m e =
     rw (← e) (cond-true _ _ _ (le-leb w h l) ∙ cond-false _ _ _ (le-ltb w a m))
 
 -- a gap before a branch
-gaps-gap :
+gaps_gap :
     (w h a b z : ℕ) (below rest : Shape) → w ≤ h → w < a → min h (a - 1) ≡ z
     → gaps w h (part (piece a b) below rest) ≡ part (piece w z) bare (part (piece a b) below (gaps (max w (b + 1)) h rest))
-gaps-gap w h a b z below rest l m e = rw (← e) (cond-true _ _ _ (le-leb w h l) ∙ cond-true _ _ _ (lt-ltb w a m))
+gaps_gap w h a b z below rest l m e = rw (← e) (cond-true _ _ _ (le-leb w h l) ∙ cond-true _ _ _ (lt-ltb w a m))
 
 -- what passes p, and all from l to h
 abbrev pub filled : (ℕ → Bool) → (l h : ℕ) → ℕ → Bool
@@ -168,15 +168,15 @@ module _ (p : ℕ → Bool) (g : ℕ → Shape) (l h : ℕ) where
       rw (← same, runs_above b cs (omega arith) (omega arith, u.1.1))
 
   -- a gap up to h
-  gap-last :
+  gap_last :
       (w a : ℕ) (cs : List ℕ) → w ≤ h → h < a → Up a (a ∷ cs) → gaps w h (runs p g (a ∷ cs)) ≡ part (piece w h) bare (runs p g (a ∷ cs))
-  gap-last w a [] k m u = cond-true _ _ _ (le-leb w h k)
-  gap-last w a (b ∷ cs) k m u =
+  gap_last w a [] k m u = cond-true _ _ _ (le-leb w h k)
+  gap_last w a (b ∷ cs) k m u =
       let R = runs p g (b ∷ cs) in
       let node : Shape → Shape = part (piece a (b - 1)) (g a) in
       elim (p a) as (λ t. gaps w h (cond t (node R) R) ≡ part (piece w h) bare (cond t (node R) R)) [
-        | true ↦ gaps-gap w h a (b - 1) h (g a) R k (omega arith) (omega arith) ∙ ap (λ r. part (piece w h) bare (node r)) (gaps_stop _ h R (omega arith))
-        | false ↦ gap-last w b cs k (omega arith) (omega arith, u.1.1)
+        | true ↦ gaps_gap w h a (b - 1) h (g a) R k (omega arith) (omega arith) ∙ ap (λ r. part (piece w h) bare (node r)) (gaps_stop _ h R (omega arith))
+        | false ↦ gap_last w b cs k (omega arith) (omega arith, u.1.1)
       ]
 
   -- the larger of two
@@ -184,13 +184,13 @@ module _ (p : ℕ → Bool) (g : ℕ → Shape) (l h : ℕ) where
   most a k = omega arith
 
   -- a gap up to the next run, or up to h
-  gap-first :
+  gap_first :
       (w b : ℕ) (cs : List ℕ) → w < b → b ≤ h + 1 → Up b (b ∷ cs) → Level p g (b ∷ cs) → ((b ≤ h) → p b ≡ true)
       → gaps w h (runs p g (b ∷ cs)) ≡ part (piece w (b - 1)) bare (gaps b h (runs p g (b ∷ cs)))
-  gap-first w b cs m k u v here =
+  gap_first w b cs m k u v here =
       ⊎_elim
       (λ q. let e : h ≡ b - 1 = omega arith in
-      gap-last w b cs (omega arith) q u ∙ ap₂ (λ z r. part (piece w z) bare r) e (sym (gaps_stop b h _ q)))
+      gap_last w b cs (omega arith) q u ∙ ap₂ (λ z r. part (piece w z) bare r) e (sym (gaps_stop b h _ q)))
       (λ q. inside cs u v q)
       (cases_lt h b)
     where
@@ -200,66 +200,66 @@ module _ (p : ℕ → Bool) (g : ℕ → Shape) (l h : ℕ) where
       inside [] u v q = absurd (true≢false (sym (here q) ∙ v b (omega arith)))
       inside (c ∷ cs) u v q =
           let R = runs p g (c ∷ cs) in
-          rw (runs-yes p g b c cs (here q))
-          (gaps-gap w h b (c - 1) (b - 1) (g b) R (omega arith) m (omega arith)
+          rw (runs_yes p g b c cs (here q))
+          (gaps_gap w h b (c - 1) (b - 1) (g b) R (omega arith) m (omega arith)
           ∙ ap (λ r. part (piece w (b - 1)) bare r)
           (ap (λ z. part (piece b (c - 1)) (g b) (gaps z h R)) (omega arith) ∙ sym (gaps_over b (max b (c - 1 + 1)) h b (c - 1) (g b) R q (omega arith) refl)))
 
   -- All that lacks from l to h is filled.
-  pub gaps-runs :
+  pub gaps_runs :
       (a : ℕ) (cs : List ℕ) → l ≤ h → ((x : ℕ) → p x ≡ false → g x ≡ bare) → Up a (a ∷ cs) → Level p g (a ∷ cs) → Near p l h (a ∷ cs)
       → Cut l a cs → Cut (h + 1) a cs → gaps (max l a) h (runs p g (a ∷ cs)) ≡ runs (filled p l h) g (a ∷ cs)
-  gaps-runs a [] lh none u v near cl ch =
+  gaps_runs a [] lh none u v near cl ch =
       ⊎_elim (λ q. cond-false _ _ _ (lt-leb (max l a) h (omega arith))) (λ i. absurd i) ch
-  gaps-runs a (b ∷ cs) lh none u v near cl ch =
+  gaps_runs a (b ∷ cs) lh none u v near cl ch =
       let up : Up b (b ∷ cs) = (omega arith, u.1.1) in
       let R = runs p g (b ∷ cs) in
       let R' = runs (filled p l h) g (b ∷ cs) in
       let node : Shape → Shape = part (piece a (b - 1)) (g a) in
       let ih : gaps (max l b) h R ≡ R' =
-      gaps-runs b cs lh none up v.1 (λ c i. near c (inr i)) (cut_more l a b cs (omega arith) cl) (cut_more (h + 1) a b cs (omega arith) ch) in
+      gaps_runs b cs lh none up v.1 (λ c i. near c (inr i)) (cut_more l a b cs (omega arith) cl) (cut_more (h + 1) a b cs (omega arith) ch) in
       ⊎_elim
       (λ k. gaps_stop (max l a) h _ (omega arith) ∙ runs_above a (b ∷ cs) k u)
       (λ k. ⊎_elim
-      (λ t. ap (gaps (max l a) h) (runs-yes p g a b cs t)
+      (λ t. ap (gaps (max l a) h) (runs_yes p g a b cs t)
       ∙ gaps_over (max l a) (max l b) h a (b - 1) (g a) R (omega arith) (omega arith) (omega arith) ∙ ap node ih
-      ∙ sym (runs-yes (filled p l h) g a b cs (or_left _ _ t)))
+      ∙ sym (runs_yes (filled p l h) g a b cs (or_left _ _ t)))
       (λ t. ⊎_elim
       (λ m. let f : between l h a ≡ false = grind (arith, nat_tests) in
       let e : max l a ≡ max l b = omega (arith, cut_out l a b cs up cl m) in
-      ap (gaps (max l a) h) (runs-no p g a b cs t) ∙ ap (λ z. gaps z h R) e ∙ ih ∙ sym (runs-no (filled p l h) g a b cs (or_from _ _ t f)))
+      ap (gaps (max l a) h) (runs_no p g a b cs t) ∙ ap (λ z. gaps z h R) e ∙ ih ∙ sym (runs_no (filled p l h) g a b cs (or_from _ _ t f)))
       (λ m. let f : between l h a ≡ true = grind (arith, nat_tests) in
       let below : bare ≡ g a = sym (none a t) in
       let next : b ≤ h → p b ≡ true =
       λ q. ⊎_elim (λ y. y) (λ y. absurd (true≢false (sym y ∙ (v.0 (b - 1) (omega arith) (omega arith)).0 ∙ t))) (near b (inr (inl refl)) (omega arith) q) in
-      ap (gaps (max l a) h) (runs-no p g a b cs t) ∙ ap (λ z. gaps z h R) (most a m)
-      ∙ gap-first a b cs (omega arith) (cut_out (h + 1) a b cs up ch (omega arith)) up v.1 next
+      ap (gaps (max l a) h) (runs_no p g a b cs t) ∙ ap (λ z. gaps z h R) (most a m)
+      ∙ gap_first a b cs (omega arith) (cut_out (h + 1) a b cs up ch (omega arith)) up v.1 next
       ∙ ap₂ (λ r s. part (piece a (b - 1)) r s) below (ap (λ z. gaps z h R) (sym (most b (omega arith))) ∙ ih)
-      ∙ sym (runs-yes (filled p l h) g a b cs (or_right _ _ f)))
+      ∙ sym (runs_yes (filled p l h) g a b cs (or_right _ _ f)))
       (cases_lt a l))
       (cases_Bool (p a)))
       (cases_lt h a)
 
   -- the same from any first cut on
-  pub gaps-all :
+  pub gaps_all :
       (cs : List ℕ) → l ≤ h → ((x : ℕ) → p x ≡ false → g x ≡ bare) → Up 0 cs → Level p g cs → Near p l h cs → In l cs → In (h + 1) cs
       → gaps l h (runs p g cs) ≡ runs (filled p l h) g cs
-  gaps-all [] lh none u v near il ih = absurd il
-  gaps-all (a ∷ cs) lh none u v near il ih =
+  gaps_all [] lh none u v near il ih = absurd il
+  gaps_all (a ∷ cs) lh none u v near il ih =
       let up : Up a (a ∷ cs) = (omega arith, u.1) in
       let e : l ≡ max l a = omega (arith, up_in a l (a ∷ cs) up il) in
-      ap (λ w. gaps w h (runs p g (a ∷ cs))) e ∙ gaps-runs a cs lh none up v near (first_cut l a cs il) (first_cut (h + 1) a cs ih)
+      ap (λ w. gaps w h (runs p g (a ∷ cs))) e ∙ gaps_runs a cs lh none up v near (first_cut l a cs il) (first_cut (h + 1) a cs ih)
 
 module _ (p : ℕ → Bool) (g : ℕ → Shape) (l h : ℕ) (f : Shape → Shape) where
   -- from any cut on
-  under-from :
+  under_from :
       (a : ℕ) (cs : List ℕ) → Up a (a ∷ cs) → Cut (h + 1) a cs → under l h f (runs p g (a ∷ cs)) ≡ runs p (deeper g l h f) (a ∷ cs)
-  under-from a [] u c = refl
-  under-from a (b ∷ cs) u c =
+  under_from a [] u c = refl
+  under_from a (b ∷ cs) u c =
       let up : Up b (b ∷ cs) = (omega arith, u.1.1) in
       let R = runs p g (b ∷ cs) in
       let R' = runs p (deeper g l h f) (b ∷ cs) in
-      let ih : under l h f R ≡ R' = under-from b cs up (cut_more (h + 1) a b cs (omega arith) c) in
+      let ih : under l h f R ≡ R' = under_from b cs up (cut_more (h + 1) a b cs (omega arith) c) in
       let out : a < h + 1 → b ≤ h + 1 = cut_out (h + 1) a b cs up c in
       let e : (leb l a && leb (b - 1) h) ≡ between l h a = grind (arith, nat_tests) in
       let node : Shape → Shape = part (piece a (b - 1)) (g a) in
@@ -267,9 +267,9 @@ module _ (p : ℕ → Bool) (g : ℕ → Shape) (l h : ℕ) (f : Shape → Shape
       [ true ↦ ap₂ (λ t r. part (piece a (b - 1)) (cond t (f (g a)) (g a)) r) e ih | false ↦ ih ]
 
   -- What is below changes from l to h.
-  pub under-runs : (cs : List ℕ) → Up 0 cs → In (h + 1) cs → under l h f (runs p g cs) ≡ runs p (deeper g l h f) cs
-  under-runs [] u i = refl
-  under-runs (a ∷ cs) u i = under-from a cs (omega arith, u.1) (first_cut (h + 1) a cs i)
+  pub under_runs : (cs : List ℕ) → Up 0 cs → In (h + 1) cs → under l h f (runs p g cs) ≡ runs p (deeper g l h f) cs
+  under_runs [] u i = refl
+  under_runs (a ∷ cs) u i = under_from a cs (omega arith, u.1) (first_cut (h + 1) a cs i)
 
 -- the same test and the same below give the same node
 pub runs_same :

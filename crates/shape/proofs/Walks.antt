@@ -29,11 +29,11 @@ cells_behind (e ∷ es) pre more (part l below rest) =
     ap₂ (λ x y. cond (within e l) x [] ++ y) deep (cells_behind (e ∷ es) pre more rest) ∙ split
 
 -- what holds of the cells below a branch, if that lies within e, with its piece before theirs
-below-branch :
+below_branch :
     (P : List Cell → Type 0) (e : Ends) (es : List Ends) (a b : ℕ) (below : Shape)
     → ((e.low ≤ a) × (b ≤ e.high) → P (map (behind (box_of (piece a b) ∷ [])) (cells es [] below))) → P []
     → P (cond (within e (piece a b)) (cells es (box_of (piece a b) ∷ []) below) [])
-below-branch P e es a b below some none =
+below_branch P e es a b below some none =
     cond_both (within e (piece a b)) _ [] P
     (λ t. let i = and_parts _ _ t in
     subst P (sym (cells_behind es (box_of (piece a b) ∷ []) [] below)) (some (leb-true _ a i.0, leb-true b _ i.1))) (λ _. none)
@@ -84,8 +84,8 @@ module _ (e : Ends) (es : List Ends) (lo a b : ℕ) (below rest : Shape) (k : lo
           (sym (here x a b below rest (leb-true a x q.0) (leb-true x b q.1))) (s.reaches v (omega arith) p.1)
 
   -- from a node with a lower branch too
-  seen-rest : Seen (e ∷ es) (b + 1) rest c → Seen (e ∷ es) lo (part (piece a b) below rest) c
-  seen-rest s =
+  seen_rest : Seen (e ∷ es) (b + 1) rest c → Seen (e ∷ es) lo (part (piece a b) below rest) c
+  seen_rest s =
       record {
         long = s.long;
         upward = s.upward;
@@ -112,15 +112,15 @@ all_seen (e ∷ es) lo (part (rule i) below rest) t = absurd t
 all_seen (e ∷ es) lo (part (piece a b) below rest) t =
     let S = Seen (e ∷ es) lo (part (piece a b) below rest) in
     All-append S _ _
-    (below-branch (All S) e es a b below
+    (below_branch (All S) e es a b below
     (λ i. All-map S _ _ (All_weaker (Seen es 0 below) _ (λ c s. seen_below e es lo a b below rest t.0 t.1 c i s) _ (all_seen es 0 below t.2))) tt)
-    (All_weaker (Seen (e ∷ es) (b + 1) rest) S (λ c s. seen-rest e es lo a b below rest t.0 t.1 c s) _ (all_seen (e ∷ es) (b + 1) rest t.3))
+    (All_weaker (Seen (e ∷ es) (b + 1) rest) S (λ c s. seen_rest e es lo a b below rest t.0 t.1 c s) _ (all_seen (e ∷ es) (b + 1) rest t.3))
 
 -- one list of cells after another
-ascending-append :
+ascending_append :
     (xs ys : List Cell) → Ascending xs → Ascending ys → All (λ x. All (λ y. Before (corner x) (corner y)) ys) xs → Ascending (xs ++ ys)
-ascending-append [] ys p q r = q
-ascending-append (x ∷ xs) ys p q r = (All-append _ xs ys p.0 r.0, ascending-append xs ys p.1 q r.1)
+ascending_append [] ys p q r = q
+ascending_append (x ∷ xs) ys p q r = (All-append _ xs ys p.0 r.0, ascending_append xs ys p.1 q r.1)
 
 -- with the same piece before each
 ascending_behind : (e : Ends) (cs : List Cell) → Ascending cs → Ascending (map (behind (e ∷ [])) cs)
@@ -142,19 +142,19 @@ ascends (e ∷ es) lo (part (piece a b) below rest) t =
     let Y = cells (e ∷ es) [] rest in
     let P : Cell → Type 0 = λ x. All (λ y. Before (corner x) (corner y)) Y in
     let up = t.1 in
-    ascending-append _ Y
-    (below-branch Ascending e es a b below (λ _. ascending_behind (box_of (piece a b)) (cells es [] below) (ascends es 0 below t.2)) tt)
+    ascending_append _ Y
+    (below_branch Ascending e es a b below (λ _. ascending_behind (box_of (piece a b)) (cells es [] below) (ascends es 0 below t.2)) tt)
     (ascends (e ∷ es) (b + 1) rest t.3)
-    (below-branch (All P) e es a b below
+    (below_branch (All P) e es a b below
     (λ _. All-map P _ _ (All_weaker (Seen es 0 below) _
     (λ c _. All_weaker (Seen (e ∷ es) (b + 1) rest) _ (λ y s. before_from a (b + 1) (corner c) y.box (omega arith) s.from (omega (arith, s.long))) Y (all_seen (e ∷ es) (b + 1) rest t.3))
     _ (all_seen es 0 below t.2))) tt)
 
 -- the smallest message of a cell lies in it
-corner-in : (es : List Ends) → All Upward es → matches (length es) es (map (λ e. e.low) es) ≡ true
-corner-in [] u = refl
-corner-in (e ∷ es) u =
-    and_from _ _ (and_from _ _ (le-leb _ _ (omega arith)) (le-leb _ _ u.0)) (corner-in es u.1)
+corner_in : (es : List Ends) → All Upward es → matches (length es) es (map (λ e. e.low) es) ≡ true
+corner_in [] u = refl
+corner_in (e ∷ es) u =
+    and_from _ _ (and_from _ _ (le-leb _ _ (omega arith)) (le-leb _ _ u.0)) (corner_in es u.1)
 
 -- what a message finds, where it is known to find these marks
 meet :
@@ -172,7 +172,7 @@ right d r T ok es e c s =
       long = s.long ∙ e;
       upward = s.upward;
       inside = s.inside;
-      marked = (all (corner c) (length-map c.box _ ∙ s.long) (rw (← s.long) (corner-in c.box s.upward))).1;
+      marked = (all (corner c) (length-map c.box _ ∙ s.long) (rw (← s.long) (corner_in c.box s.upward))).1;
       told = λ v l m. (all v (l ∙ sym e) (rw e m)).0;
     }
   where

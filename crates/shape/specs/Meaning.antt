@@ -111,8 +111,8 @@ SpaceIsExact =
     → (branches_of (grown d T) ≡ branches d 0 T) × (marks_of (grown d T) ≡ marks d 0 T)
 
 -- Branches run upward and apart, and marks ascend.
-abbrev pub Order-is-kept : Type 0
-Order-is-kept = (d : ℕ) (T : List (List Ends)) → All (Proper d) T → Tidy d 0 (grown d T)
+abbrev pub OrderIsKept : Type 0
+OrderIsKept = (d : ℕ) (T : List (List Ends)) → All (Proper d) T → Tidy d 0 (grown d T)
 
 -- The cell that a message reaches has the numbers of the rules that match it; one that reaches no cell
 -- matches no rule.

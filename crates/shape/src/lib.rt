@@ -1,6 +1,6 @@
 // Theorems on the tree of a list of rules. Each function's contract is one, and its body says nothing.
 ghost use Rattle.shape.specs.Examples.{WorkedTrees};
-ghost use Rattle.shape.specs.Meaning.{GrownMore, SpaceIsExact, Order-is-kept, LookUpIsRight, CellsAreRight, CellsCover};
+ghost use Rattle.shape.specs.Meaning.{GrownMore, SpaceIsExact, OrderIsKept, LookUpIsRight, CellsAreRight, CellsCover};
 
 /// A table's tree with one rule more is its tree before, after the insertion of that rule with the next number.
 pub fn grown_more() -> u8
@@ -18,7 +18,7 @@ pub fn space_is_exact() -> u8
 
 /// In every node the branches run upward and do not overlap, and in every cell the marks ascend.
 pub fn order_is_kept() -> u8
-    ensures { Order-is-kept }
+    ensures { OrderIsKept }
 {
     0
 }

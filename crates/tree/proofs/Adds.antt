@@ -19,10 +19,10 @@ branches_add i bare = refl
 branches_add i (part l b r) = omega (arith, branches_add i r)
 
 -- the first mark of a cell
-pub first-mark :
+pub first_mark :
     (s s' : Store) (i first r : ℕ) (t : Records) → Fits s 0 first t (add_mark i (shape t)) → first ≡ 0xffff_ffff → r < 0xffff_ffff
     → Pushed s s' (place 0 r) (rec (rule i) 0xffff_ffff 0xffff_ffff) → (u : Records) × Became s s' 0 t (add_mark i (shape t)) r u
-first-mark s s' i first r t K e low P =
+first_mark s s' i first r t K e low P =
     let z : none ≡ t = sym (empty s 0 t K.stands.holds (K.from ∙ e)) in (
       item r (rule i) none none,
       subst (λ t. Became s s' 0 t (add_mark i (shape t)) r (item r (rule i) none none)) z
@@ -30,13 +30,13 @@ first-mark s s' i first r t K e low P =
     )
 
 -- one after the last
-pub last-mark :
+pub last_mark :
     {s₀ : Store} {first i : ℕ} {t : Records} {s : Store} {at n bel next : ℕ} {l : Label} (s₂ s₃ : Store) (new : ℕ)
     → (W : Walk s₀ 0 first (add_mark i) t s at n (add_mark i)) → (F : Found at l bel next W.rest) → next ≡ 0xffff_ffff → new < 0xffff_ffff
     → Pushed s s₂ (place 0 new) (rec (rule i) 0xffff_ffff 0xffff_ffff)
     → Written s₂ s₃ (place 0 at) (with_next (look s₂ (place 0 at)) new)
     → (t' : Records) × Became s₀ s₃ 0 t (add_mark i (shape t)) first t'
-last-mark {s₀} {first} {i} {t} {s} {at} {n} {bel} {next} {l} s₂ s₃ new W F e low P Q =
+last_mark {s₀} {first} {i} {t} {s} {at} {n} {bel} {next} {l} s₂ s₃ new W F e low P Q =
     let S = stands W F in
     let z : F.rest ≡ none = empty s 0 F.rest S.holds.3 (F.Rest-from ∙ e) in
     let p = place 0 at in

@@ -53,24 +53,24 @@ waits_is s d path lows (r ∷ rs) h =
     ap₂ (λ t n. work (d - length rs) (later (shape t)) + n) (read_stood s (d - length rs) (get_or path (length rs) 0) r h.0) (waits_is s d path lows rs h.3)
 
 -- a change of the path past a stack
-stack-kept : (s : Store) (d : ℕ) (path lows : List ℕ) (j v w : ℕ) (rs : List Records) → length rs ≤ j → Stack s d path lows rs → Stack s d (set path j v) (set lows j w) rs
-stack-kept s d path lows j v w [] le h = h
-stack-kept s d path lows j v w (r ∷ rs) le h =
+stack_kept : (s : Store) (d : ℕ) (path lows : List ℕ) (j v w : ℕ) (rs : List Records) → length rs ≤ j → Stack s d path lows rs → Stack s d (set path j v) (set lows j w) rs
+stack_kept s d path lows j v w [] le h = h
+stack_kept s d path lows j v w (r ∷ rs) le h =
     let e : get_or (set path j v) (length rs) 0 ≡ get_or path (length rs) 0 = get_or-set_other path j (length rs) v 0 (λ z. omega arith) in
     let f : get_or (set lows j w) (length rs) 0 ≡ get_or lows (length rs) 0 = get_or-set_other lows j (length rs) w 0 (λ z. omega arith) in (
       subst (λ n. Stood s (d - length rs) n r) (sym e) h.0,
       omega (arith, e, h.1),
       f ∙ h.2,
-      stack-kept s d path lows j v w rs (omega arith) h.3,
+      stack_kept s d path lows j v w rs (omega arith) h.3,
     )
 
 -- the low ends that the path has
-pub lows-are : (s : Store) (d : ℕ) (path lows : List ℕ) (rs : List Records) → length rs ≤ length lows → Stack s d path lows rs → take (length rs) lows ≡ map (λ e. e.low) (boxes rs)
-lows-are s d path lows [] le h = refl
-lows-are s d path lows (r ∷ rs) le h =
+pub lows_are : (s : Store) (d : ℕ) (path lows : List ℕ) (rs : List Records) → length rs ≤ length lows → Stack s d path lows rs → take (length rs) lows ≡ map (λ e. e.low) (boxes rs)
+lows_are s d path lows [] le h = refl
+lows_are s d path lows (r ∷ rs) le h =
     ap (λ n. take n lows) (let z : suc (length rs) ≡ length rs + 1 = omega arith in z)
     ∙ take_more lows (length rs) 0 (omega arith)
-    ∙ ap₂ (λ xs x. xs ++ x ∷ []) (lows-are s d path lows rs (omega arith) h.3) h.2
+    ∙ ap₂ (λ xs x. xs ++ x ∷ []) (lows_are s d path lows rs (omega arith) h.3) h.2
     ∙ sym (map-append (λ e. e.low) (boxes rs) (top_box r ∷ []))
 
 -- The cells of a node with fields left: by its first branch.
@@ -177,7 +177,7 @@ module _ {s : Store} {es : List Ends} {path lows : List ℕ} {k at : ℕ} {cs : 
               subst (λ j. Stood s (length es - n) j r) (sym g) (at_record T.stood F),
               omega (arith, g, (at_record T.stood F).stands.holds.0),
               ap (λ j. get_or (set lows k (box_of l).low) j 0) T.height ∙ get_or-set_same lows k (box_of l).low 0 long',
-              stack-kept s (length es) path lows k at (box_of l).low T.stack (omega (arith, T.height)) T.above,
+              stack_kept s (length es) path lows k at (box_of l).low T.stack (omega (arith, T.height)) T.above,
             );
             come =
                 ap (λ j. cells (drop j es) (boxes (r ∷ T.stack)) (shape F.below) ++ (cells (drop n es) (boxes T.stack) (shape F.rest) ++ waiting es T.stack)) (let z : suc n ≡ n + 1 = omega arith in z)
@@ -195,8 +195,8 @@ module _ {s : Store} {es : List Ends} {path lows : List ℕ} {k at : ℕ} {cs : 
         ∙ T.come
 
   -- with a branch for each field it is a cell
-  pub at-cell : k ≡ length es → record { box = boxes T.stack; marks = marks_in (shape T.node) } ∷ waiting es T.stack ≡ cs
-  at-cell e =
+  pub at_cell : k ≡ length es → record { box = boxes T.stack; marks = marks_in (shape T.node) } ∷ waiting es T.stack ≡ cs
+  at_cell e =
       ap (λ xs. cells xs (boxes T.stack) (shape T.node) ++ waiting es T.stack) (sym (drop_all (length T.stack) es (omega (arith, T.height)))) ∙ T.come
 
 -- Up, and on to what comes after the branch above.
@@ -271,8 +271,8 @@ module _ {s : Store} {es : List Ends} {path lows : List ℕ} {k at : ℕ} {cs : 
       let h : length T.stack ≡ length es = T.height ∙ e in
       let none_left : length es - length T.stack ≡ 0 = omega arith in
       let front : take (length es) lows ≡ map (λ e. e.low) (boxes T.stack) =
-      ap (λ n. take n lows) (sym h) ∙ lows-are s (length es) path lows T.stack (omega arith) T.above in
-      subst (Reached s es (record { found = true; corner = lows; marks = at; path = path })) (at-cell T e) (
+      ap (λ n. take n lows) (sym h) ∙ lows_are s (length es) path lows T.stack (omega arith) T.above in
+      subst (Reached s es (record { found = true; corner = lows; marks = at; path = path })) (at_cell T e) (
         refl,
         front,
         clear,

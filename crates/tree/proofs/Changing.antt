@@ -6,7 +6,7 @@ use Rattle.tree.specs.Links.{Records, none, item, shape, root, place, Holds, cou
 use Rattle.tree.specs.declared.records.Store.{Store}
 use Rattle.tree.proofs.Places.{one_self, live_most, place_branch}
 use Rattle.tree.proofs.Copies.{at_branch}
-use Rattle.tree.proofs.Frames.{kept, empty, Found, found, taken, chain-is, few, unchanged, then}
+use Rattle.tree.proofs.Frames.{kept, empty, Found, found, taken, chain_is, few, unchanged, then}
 
 -- A change in what follows a record, which it still follows at the same index.
 pub followed :
@@ -116,19 +116,19 @@ see {d = d} {s = s} {at = at} l bel next W ne read =
     found s d at l bel next W.rest W.fits.stands.holds W.fits.from ne read
 
 -- the same of a branch
-pub see-branch :
+pub see_branch :
     {s₀ : Store} {d first : ℕ} {g₀ : Shape → Shape} {t : Records} {s : Store} {at n : ℕ} {g : Shape → Shape} (low high bel next : ℕ)
     → (W : Walk s₀ d first g₀ t s at n g) → 0 < d → (at ≡ 0xffff_ffff → ⊥) → look s at ≡ rec (piece low high) bel next
     → Found at (piece low high) bel next W.rest
-see-branch {d = d} {s = s} {at = at} low high bel next W pos ne read =
+see_branch {d = d} {s = s} {at = at} low high bel next W pos ne read =
     see (piece low high) bel next W ne (at_branch s d at _ (λ z. omega arith) read)
 
 -- the same by its link alone
-pub see-next :
+pub see_next :
     {s₀ : Store} {d first : ℕ} {g₀ : Shape → Shape} {t : Records} {s : Store} {at n : ℕ} {g : Shape → Shape} (next : ℕ)
     → (W : Walk s₀ d first g₀ t s at n g) → (at ≡ 0xffff_ffff → ⊥) → next ≡ next_of (look s (place d at))
     → Found at (label_of (look s (place d at))) (below_of (look s (place d at))) next W.rest
-see-next {d = d} {s = s} {at = at} next W ne e =
+see_next {d = d} {s = s} {at = at} next W ne e =
     see _ _ next W ne (whole (look s (place d at)) ∙ ap (rec (label_of (look s (place d at))) (below_of (look s (place d at)))) (sym e))
   where
     -- a record is its parts
@@ -195,7 +195,7 @@ module _
   pub less : (s₁ : Store) → Holds s₁ d F.rest → chain n s₁ d next < chain n s d at
   less s₁ H =
       let steps : (s : Store) (a : ℕ) (r : Records) → Holds s d r → root r ≡ a → siblings (shape r) ≤ n → chain n s d a ≡ siblings (shape r) =
-      λ s a r H e le. ap (chain n s d) (sym e) ∙ chain-is s d r n H le in
+      λ s a r H e le. ap (chain n s d) (sym e) ∙ chain_is s d r n H le in
       let fewer = ap (λ r. siblings (shape r)) F.is in
       omega
       (arith, fewer, steps s₁ next F.rest H F.Rest-from (omega (arith, W.turns)), steps s at W.rest W.fits.stands.holds W.fits.from W.turns)

@@ -5,7 +5,7 @@ use Rattle.tree.specs.Memory.{one, Rec, rec, next_of, with_next, mark_place, liv
 use Rattle.tree.specs.Links.{Records, none, item, shape, root, place, Holds, count, Changed, Copiable, Copied, CopiedOne, chain}
 use Rattle.tree.specs.declared.records.Store.{Store}
 use Rattle.tree.proofs.Places.{one_self, live_most, place_mark, place_branch}
-use Rattle.tree.proofs.Frames.{kept, empty, opened, Found, chain-is, few, unchanged, then, topped}
+use Rattle.tree.proofs.Frames.{kept, empty, opened, Found, chain_is, few, unchanged, then, topped}
 
 -- copy_branch
 
@@ -30,10 +30,10 @@ pub new_mark : (s s' : Store) (d at : ℕ) (x : Rec) → d ≡ 0 → Pushed s s'
 new_mark s s' d at x z P = subst (λ p. Pushed s s' p x) (sym (place_mark d at z)) P
 
 -- What is below a record that was read can be copied too.
-pub below-copiable :
+pub below_copiable :
     (s : Store) (d at : ℕ) (l m : Label) (bel next : ℕ) (below rest : Records)
     → Copiable s d at (item at l below rest) → look s (place d at) ≡ rec m bel next → Copiable s (d - 1) bel below
-below-copiable s d at l m bel next below rest K read =
+below_copiable s d at l m bel next below rest K read =
     let q : rec l (root below) (root rest) ≡ rec m bel next = sym K.stands.holds.1 ∙ read in
     record {
       stands = record { holds = K.stands.holds.2; own = λ k. omega (arith, K.stands.own k) };
@@ -44,20 +44,20 @@ below-copiable s d at l m bel next below rest K read =
     }
 
 -- the same, by what was read
-pub found-copiable :
+pub found_copiable :
     (s : Store) (d at : ℕ) (m : Label) (bel next : ℕ) (t : Records)
     → Copiable s d at t → (F : Found at m bel next t) → Copiable s (d - 1) bel F.below
-found-copiable s d at m bel next t K F =
+found_copiable s d at m bel next t K F =
     let J = subst (Copiable s d at) F.is K in
-    below-copiable s d at m m bel next F.below F.rest J
+    below_copiable s d at m m bel next F.below F.rest J
     (J.stands.holds.1 ∙ ap (λ b. rec m b (root F.rest)) F.below_from ∙ ap (rec m bel) F.Rest-from)
 
 -- a new record over the copy of what is below it
-pub copied-one :
+pub copied_one :
     (s s₁ s₂ : Store) (d at r : ℕ) (l m : Label) (bel next new : ℕ) (below rest u : Records)
     → Holds s d (item at l below rest) → look s (place d at) ≡ rec m bel next → Copied s s₁ (d - 1) below new u
     → r < 0xffff_ffff → Pushed s₁ s₂ (place d r) (rec m new 0xffff_ffff) → CopiedOne s s₂ d l below r u
-copied-one s s₁ s₂ d at r l m bel next new below rest u H read C low P =
+copied_one s s₁ s₂ d at r l m bel next new below rest u H read C low P =
     let q : rec l (root below) (root rest) ≡ rec m bel next = sym H.1 ∙ read in
     let e : rec m new 0xffff_ffff ≡ rec l (root u) 0xffff_ffff = cc C.from in
     record { change = topped s s₁ s₂ d u r l C.change low (subst (Pushed s₁ s₂ (place d r)) e P); same = C.same }
@@ -129,11 +129,11 @@ module _
       }
 
 -- a write elsewhere
-pub ready-kept :
+pub ready_kept :
     (s s' : Store) (d at last n p : ℕ) (r : Records) (l : Label) (b : Records) (x : Rec)
     → Ready s d at last n r l b → Written s s' p x → ((k : ℕ) → one p k + count d (item last l b r) k ≤ 1)
     → Ready s' d at last n r l b
-ready-kept s s' d at last n p r l b x R W apart =
+ready_kept s s' d at last n p r l b x R W apart =
     record {
       left =
           record {
@@ -164,13 +164,13 @@ module _
       let most = live_most s₁ in
       let p = place d at in
       let same = W.keeps p (omega (arith, R.own p, C.change.grown p, most p, one_self p)) in
-      ready-kept s₁ s₂ d at' new n (place d last) rest m u _
+      ready_kept s₁ s₂ d at' new n (place d last) rest m u _
       (rest_ready s s₁ d at new m below rest u R.left C at' n (e ∙ ap next_of same) (omega (arith, R.turns)))
       W (λ k. omega (arith, R.own k, C.change.grown k, most k))
 
   -- and what follows it then follows the one before
-  pub linked-more : (s' : Store) (r' : Records) → Linked s₂ s' d new m u rest r' → Linked s s' d last l b (item at m below rest) (item new m u r')
-  linked-more s' r' L =
+  pub linked_more : (s' : Store) (r' : Records) → Linked s₂ s' d new m u rest r' → Linked s s' d last l b (item at m below rest) (item new m u r')
+  linked_more s' r' L =
       let most = live_most s₁ in
       let keeps : (k : ℕ) → one (place d last) k ≡ 0 → 0 < live s k → look s' k ≡ look s k =
       λ k h a.
@@ -233,7 +233,7 @@ turn s₀ d last₀ r₀ l₀ b₀ s s₁ s₂ at last n new at' M ne copies W e
           λ s' r' L.
           M.finish s' (item new O.label u r')
           (subst (λ r. Linked s s' d last M.label M.below r (item new O.label u r')) (sym O.is)
-          (linked-more s s₁ s₂ d at last n new M.label O.label M.below O.below u O.rest R C W s' r' L));
+          (linked_more s s₁ s₂ d at last n new M.label O.label M.below O.below u O.rest R C W s' r' L));
     }
 
 -- and leaves fewer
@@ -247,7 +247,7 @@ falls s₀ d last₀ r₀ l₀ b₀ s s₁ s₂ at last n new at' M ne copies W 
     let M' = turn s₀ d last₀ r₀ l₀ b₀ s s₁ s₂ at last n new at' M ne copies W e in
     let O = opened at M.rest M.ready.left.from ne in
     let steps : (t : Store) (a : ℕ) (r : Records) → Copiable t d a r → siblings (shape r) ≤ n → chain n t d a ≡ siblings (shape r) =
-    λ t a r K le. ap (chain n t d) (sym K.from) ∙ chain-is t d r n K.stands.holds le in
+    λ t a r K le. ap (chain n t d) (sym K.from) ∙ chain_is t d r n K.stands.holds le in
     omega
     (arith, steps s₂ at' M'.rest M'.ready.left M'.ready.turns, steps s at M.rest M.ready.left M.ready.turns, ap (λ r. siblings (shape r)) O.is)
 

@@ -10,24 +10,24 @@ use Rattle.tree.proofs.Frames.{Found}
 use Rattle.tree.proofs.Changing.{Walk, inserted, stands, fits, ended}
 
 -- a branch that does not have x strictly inside is not cut
-pub cut-past :
+pub cut_past :
     (x low high : ℕ) (b r : Shape) → (low < x → x ≤ high → ⊥)
     → cut_at x (part (piece low high) b r) ≡ part (piece low high) b (cut_at x r)
-cut-past x low high b r out =
+cut_past x low high b r out =
     let e : (ltb low x && leb x high) ≡ false = grind (arith, nat_tests) in cond-false _ _ _ e
 
 -- one that has is cut in two
-pub cut-here :
+pub cut_here :
     (x low high : ℕ) (b r : Shape) → low < x → x ≤ high
     → cut_at x (part (piece low high) b r) ≡ part (piece low (x - 1)) b (part (piece x high) b r)
-cut-here x low high b r l h = cond-true _ _ _ (and_from _ _ (lt-ltb low x l) (le-leb x high h))
+cut_here x low high b r l h = cond-true _ _ _ (and_from _ _ (lt-ltb low x l) (le-leb x high h))
 
 module _
     {s₀ : Store} {d first x : ℕ} {t : Records} {s : Store} {at n low high bel next : ℕ}
     (W : Walk s₀ d first (cut_at x) t s at n (cut_at x)) (F : Found at (piece low high) bel next W.rest) (l : low < x) (h : x ≤ high) where
   -- what becomes of the node
   e : cut_at x (part (piece low high) (shape F.below) (shape F.rest)) ≡ part (piece low (x - 1)) (shape F.below) (part (piece x high) (shape F.below) (shape F.rest))
-  e = cut-here x low high (shape F.below) (shape F.rest) l h
+  e = cut_here x low high (shape F.below) (shape F.rest) l h
 
   -- there is room for the upper part and the copy
   pub room : s.used + (1 + branches_of (shape F.below)) ≤ space (length s.branches.now)

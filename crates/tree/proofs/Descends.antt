@@ -82,38 +82,38 @@ module _
     (W : Walk s₀ d first (under low high (insert fs i)) t s at n (under low high (insert fs i)))
     (F : Found at (piece a b) bel next W.rest) where
   -- a branch that is not within the interval stays
-  pub under-past :
+  pub under_past :
       (a < low) ⊎ ((low ≤ a) × (high < b))
       → under low high (insert fs i) (part (piece a b) (shape F.below) (shape F.rest)) ≡ part (piece a b) (shape F.below) (under low high (insert fs i) (shape F.rest))
-  under-past out =
+  under_past out =
       let e : (leb low a && leb b high) ≡ false = grind (arith, nat_tests) in
       ap (λ x. part (piece a b) x (under low high (insert fs i) (shape F.rest))) (cond-false _ _ _ e)
 
   module _ (l : low ≤ a) (h : b ≤ high) where
     -- one that is gets the rest of the rule
-    pub under-here :
+    pub under_here :
         under low high (insert fs i) (part (piece a b) (shape F.below) (shape F.rest)) ≡ part (piece a b) (insert fs i (shape F.below)) (under low high (insert fs i) (shape F.rest))
-    under-here =
+    under_here =
         ap (λ x. part (piece a b) x (under low high (insert fs i) (shape F.rest)))
         (cond-true _ _ _ (and_from _ _ (le-leb low a l) (le-leb b high h)))
 
     -- there is room for the rest of the rule below it
-    pub below-fits : Fits s (d - 1) bel F.below (insert fs i (shape F.below))
-    below-fits =
+    pub below_fits : Fits s (d - 1) bel F.below (insert fs i (shape F.below))
+    below_fits =
         let S = stands W F in
         let g = under_grows low high (insert fs i) (insert_grows fs i) (shape F.rest) in
         record {
           stands = record { holds = S.holds.2; own = λ k. omega (arith, S.own k) };
           from = F.below_from;
           steps = omega (arith, (fits W F).steps);
-          room = omega (arith, (fits W F).room, ap branches_of under-here);
-          room_marks = omega (arith, (fits W F).room_marks, ap marks_of under-here);
+          room = omega (arith, (fits W F).room, ap branches_of under_here);
+          room_marks = omega (arith, (fits W F).room_marks, ap marks_of under_here);
         }
 
     -- the branch is still taken after that
-    pub alive-after :
+    pub alive_after :
         (s₁ : Store) (bel' : ℕ) (b' : Records) → Became s s₁ (d - 1) F.below (insert fs i (shape F.below)) bel' b' → 0 < d → 0 < live s₁ at
-    alive-after s₁ bel' b' B pos =
+    alive_after s₁ bel' b' B pos =
         let p = place d at in
         let S = stands W F in
         let still : 0 < live s₁ p = omega (arith, S.own p, one_self p, B.change.grown p) in
@@ -129,7 +129,7 @@ module _
       pub turned : Walk s₀ d first (under low high (insert fs i)) t s₂ next n (under low high (insert fs i))
       turned =
           step W F s₂ (piece a b) b' (under low high (insert fs i)) turn_change
-          (under-here ∙ ap (λ x. part (piece a b) x (under low high (insert fs i) (shape F.rest))) (sym B.same))
+          (under_here ∙ ap (λ x. part (piece a b) x (under low high (insert fs i) (shape F.rest))) (sym B.same))
 
 -- Before a step that makes sh of a tree on the way to sh', and after it.
 pub weaker : (s : Store) (d first : ℕ) (t : Records) (sh sh' : Shape) → Grows sh sh' → Fits s d first t sh' → Fits s d first t sh

@@ -26,10 +26,10 @@ pub gaps_over : (w h a b : ℕ) (below rest : Shape) → w ≤ h → a ≤ w →
 gaps_over w h a b below rest l m = cond-true _ _ _ (le-leb w h l) ∙ cond-false _ _ _ (le-ltb w a m)
 
 -- one that begins above w does
-pub gaps-gap :
+pub gaps_gap :
     (w h a b : ℕ) (below rest : Shape) → w ≤ h → w < a
     → gaps w h (part (piece a b) below rest) ≡ part (piece w (min h (a - 1))) bare (tail w h (part (piece a b) below rest))
-gaps-gap w h a b below rest l m = cond-true _ _ _ (le-leb w h l) ∙ cond-true _ _ _ (lt-ltb w a m)
+gaps_gap w h a b below rest l m = cond-true _ _ _ (le-leb w h l) ∙ cond-true _ _ _ (lt-ltb w a m)
 
 -- filling takes no less room
 pub gaps_grows : (w h : ℕ) (sh : Shape) → Grows sh (gaps w h sh)
@@ -79,12 +79,12 @@ module _
     {s₀ : Store} {d first : ℕ} {g₀ : Shape → Shape} {t : Records} {s : Store} {at n : ℕ} {g : Shape → Shape} {l : Label} {bel next : ℕ}
     (W : Walk s₀ d first g₀ t s at n g) (F : Found at l bel next W.rest) where
   -- the record, the new one, and on
-  pub step-two :
+  pub step_two :
       (s₁ : Store) (new : ℕ) (m : Label) (g' : Shape → Shape)
       → Changed s s₁ d (item at l F.below F.rest) (item at l F.below (item new m none F.rest))
       → g (part l (shape F.below) (shape F.rest)) ≡ part l (shape F.below) (part m bare (g' (shape F.rest)))
       → Walk s₀ d first g₀ t s₁ next n g'
-  step-two s₁ new m g' C e =
+  step_two s₁ new m g' C e =
       let S = stands W F in
       let K = fits W F in
       let own : (k : ℕ) → count d (item at l F.below (item new m none F.rest)) k ≤ live s₁ k = λ k. omega (arith, C.grown k, S.own k) in
@@ -133,10 +133,10 @@ module _
       pub room_gap : s.used < space (length s.branches.now)
       room_gap = omega (arith, (fits W F).room, ap branches_of gap_is, (tail_grows w' h (shape F.rest)).branches)
 
-      pub gap-change :
+      pub gap_change :
           (s₁ s₂ : Store) (new : ℕ) → 0 < d → look s at ≡ rec (piece a b) bel next → Inserted s s₁ s₂ at w' to new
           → Changed s s₂ d (item at (piece a b) F.below F.rest) (item at (piece a b) F.below (item new (piece w' to) none F.rest))
-      gap-change s₁ s₂ new pos read N =
+      gap_change s₁ s₂ new pos read N =
           let ne : d ≡ 0 → ⊥ = λ z. omega arith in
           (inserted s s s₁ s₂ d at new 0xffff_ffff _ _ _ F.below F.rest none (stands W F) (unchanged s _ none tt) refl N.small
           (subst (λ i. Pushed s s₁ (place d new) (rec (piece w' to) 0xffff_ffff i)) (ap next_of read ∙ sym F.Rest-from) (new_branch s s₁ d new _ ne N.pushed))
@@ -159,7 +159,7 @@ module _
   pub gap_there : (to : ℕ) → to ≡ min high (a - 1) → from < a → Gap from high (shape t) (Some to)
   gap_there to is m =
       subst (λ t. Gap from high (shape t) (Some to)) (sym seen.is)
-      (gaps-gap from high a b (shape seen.below) (shape seen.rest) l m ∙ ap (λ n. part (piece from n) bare (tail from high (shape (item next (piece a b) seen.below seen.rest)))) (sym is))
+      (gaps_gap from high a b (shape seen.below) (shape seen.rest) l m ∙ ap (λ n. part (piece from n) bare (tail from high (shape (item next (piece a b) seen.below seen.rest)))) (sym is))
 
   -- it begins at or below
   pub no_gap : a ≤ from → Gap from high (shape t) None
@@ -187,10 +187,10 @@ module _ (s : Store) (d first w h : ℕ) (t : Records) (K : Fits s d first t (ga
     room_first = omega (arith, K.room, ap branches_of G, B.change.branches, ap branches_of B.same, B.change.all)
 
     -- that branch is the new first
-    pub first-filled :
+    pub first_filled :
         (s₂ : Store) (r : ℕ) → r < 0xffff_ffff → Pushed s₁ s₂ (place d r) (rec (piece w to) 0xffff_ffff first)
         → (u : Records) × Became s s₂ d t (gaps w h (shape t)) r u
-    first-filled s₂ r low P =
+    first_filled s₂ r low P =
         let S : Stands s₁ d t₁ = record { holds = B.change.holds; own = λ k. omega (arith, K.stands.own k, B.change.grown k) } in (
           item r (piece w to) none t₁,
           record {

@@ -57,13 +57,13 @@ taken s d at (item a l below rest) S e ne =
     subst (λ i. 0 < live s (place d i)) e (omega (arith, one_self (place d a), S.own (place d a)))
 
 -- how far a loop over a node has to go
-pub chain-is : (s : Store) (d : ℕ) (t : Records) (n : ℕ) → Holds s d t → siblings (shape t) ≤ n → chain n s d (root t) ≡ siblings (shape t)
-chain-is s d none zero h le = refl
-chain-is s d none (suc n) h le = refl
-chain-is s d (item at l below rest) zero h le = absurd (omega arith)
-chain-is s d (item at l below rest) (suc n) h le =
+pub chain_is : (s : Store) (d : ℕ) (t : Records) (n : ℕ) → Holds s d t → siblings (shape t) ≤ n → chain n s d (root t) ≡ siblings (shape t)
+chain_is s d none zero h le = refl
+chain_is s d none (suc n) h le = refl
+chain_is s d (item at l below rest) zero h le = absurd (omega arith)
+chain_is s d (item at l below rest) (suc n) h le =
     cond-false _ _ _ (ne_eqb at 0xffff_ffff (λ e. omega (arith, h.0)))
-    ∙ ap suc (ap (λ r. chain n s d (next_of r)) h.1 ∙ chain-is s d rest n h.3 (omega arith))
+    ∙ ap suc (ap (λ r. chain n s d (next_of r)) h.1 ∙ chain_is s d rest n h.3 (omega arith))
     ∙ sym (one-add (siblings (shape rest)))
 
 -- a node has no more records than its tree

@@ -68,10 +68,10 @@ module _
   grown_is = ap₂ (λ fs i. insert fs i (shape m.records.0)) first next ∙ ap (insert (take x.fields e) (length T + 1)) m.records.3 ∙ sym (grown_more_lem x.fields T e)
 
   -- the shape with the rule takes the space that the rules need
-  space-is :
+  space_is :
       (branches_of (insert es n (shape m.records.0)) ≡ branches x.fields 0 (T ++ e ∷ []))
       × (marks_of (insert es n (shape m.records.0)) ≡ marks x.fields 0 (T ++ e ∷ []))
-  space-is =
+  space_is =
       let z = space_exact x.fields (T ++ e ∷ []) all_proper in
       (ap branches_of grown_is ∙ z.0, ap marks_of grown_is ∙ z.1)
 
@@ -79,8 +79,8 @@ module _
   pub need_is : (k : Space) → Weighs k (λ p q. weight p q (insert es n (shape m.records.0))) → k ≡ need_of x.fields (T ++ e ∷ [])
   need_is k W =
       let sh = insert es n (shape m.records.0) in
-      let b : k.branches ≡ sat (branches x.fields 0 (T ++ e ∷ [])) = W.branches ∙ ap sat (sym (branches_weight sh) ∙ space-is.0) in
-      let c : k.marks ≡ sat (marks x.fields 0 (T ++ e ∷ [])) = W.marks ∙ ap sat (sym (marks_weight sh) ∙ space-is.1) in
+      let b : k.branches ≡ sat (branches x.fields 0 (T ++ e ∷ [])) = W.branches ∙ ap sat (sym (branches_weight sh) ∙ space_is.0) in
+      let c : k.marks ≡ sat (marks x.fields 0 (T ++ e ∷ [])) = W.marks ∙ ap sat (sym (marks_weight sh) ∙ space_is.1) in
       λ i. record { branches = b i; marks = c i }
 
   -- where nothing lacks, there is room for the rule
@@ -90,7 +90,7 @@ module _
   rule_fits l h =
       let z = sized m in
       let r = space_room x.store in
-      let y = space-is in
+      let y = space_is in
       record {
         stands = m.records.1;
         from = m.records.2;
@@ -100,12 +100,12 @@ module _
       }
 
   -- and afterwards the records mean the rules with it
-  pub meant-more :
+  pub meant_more :
       (s : Store) (r : ℕ) (u : Records) → Became x.store s x.fields m.records.0 (insert es n (shape m.records.0)) r u
       → Meant (record { store = s; root = r; fields = x.fields }) (T ++ e ∷ [])
-  meant-more s r u B =
+  meant_more s r u B =
       let z = sized m in
-      let y = space-is in
+      let y = space_is in
       let C = B.change in
       record {
         fields = m.fields;

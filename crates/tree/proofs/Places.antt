@@ -77,14 +77,14 @@ live_more u a a' m k h e =
     ap (λ n. live_in n m k) (top_is (u + 1) a' (omega arith)) ∙ live_one u m k (omega arith) ∙ ap (λ n. live_in n m k + one u k) (sym (top_is u a (omega arith)))
 
 -- one mark more in a slice
-pub live-more-marks : (n u a a' k : ℕ) → u < space a → a' ≡ a → live_in n (top (u + 1) a') k ≡ live_in n (top u a) k + one (u + 4294967296) k
-live-more-marks n u a a' k h e =
+pub live_more_marks : (n u a a' k : ℕ) → u < space a → a' ≡ a → live_in n (top (u + 1) a') k ≡ live_in n (top u a) k + one (u + 4294967296) k
+live_more_marks n u a a' k h e =
     let g = space_le a in
     ap (λ m. live_in n m k) (top_is (u + 1) a' (omega arith)) ∙ live_one_mark n u k ∙ ap (λ m. live_in n m k + one (u + 4294967296) k) (sym (top_is u a (omega arith)))
 
 -- what stands past the slices
-abbrev no-branch : Branch
-no-branch = record { low = 0; high = 0; below = 0; next = 0 }
+abbrev no_branch : Branch
+no_branch = record { low = 0; high = 0; below = 0; next = 0 }
 
 -- and past that of the marks
 abbrev no_mark : Mark
@@ -92,7 +92,7 @@ no_mark = record { rule = 0; next = 0 }
 
 module _ (bs : List Branch) (ms : List Mark) where
   -- a branch is read at its index
-  pub look_branch : (k : ℕ) → k < 4294967296 → look_in bs ms k ≡ of_branch (get_or bs k no-branch)
+  pub look_branch : (k : ℕ) → k < 4294967296 → look_in bs ms k ≡ of_branch (get_or bs k no_branch)
   unfolding look_in
   look_branch k l = cond-true _ _ _ (lt-ltb k 4294967296 l)
 
@@ -106,12 +106,12 @@ module _ (bs : List Branch) (ms : List Mark) where
   unfolding look_in
   put_other i b k z =
       ap (λ x. cond (ltb k 4294967296) (of_branch x) (of_mark (get_or ms (k - 4294967296) no_mark)))
-      (get_or-set_other bs i k b no-branch (one_other i k z))
+      (get_or-set_other bs i k b no_branch (one_other i k z))
 
   -- a mark is read at its index
-  pub look-mark : (k : ℕ) → look_in bs ms (k + 4294967296) ≡ of_mark (get_or ms k no_mark)
+  pub look_mark : (k : ℕ) → look_in bs ms (k + 4294967296) ≡ of_mark (get_or ms k no_mark)
   unfolding look_in
-  look-mark k =
+  look_mark k =
       cond-false _ _ _ (le-ltb (k + 4294967296) 4294967296 (omega arith))
       ∙ ap (λ i. of_mark (get_or ms i no_mark)) (let e : k + 4294967296 - 4294967296 ≡ k = omega arith in e)
 
@@ -130,6 +130,6 @@ module _ (bs : List Branch) (ms : List Mark) where
       let ne = one_other (i + 4294967296) k z in
       ⊎_elim (λ l. cond-true _ _ _ (lt-ltb k 4294967296 l) ∙ sym (cond-true _ _ _ (lt-ltb k 4294967296 l)))
       (λ l.
-      ap (λ x. cond (ltb k 4294967296) (of_branch (get_or bs k no-branch)) (of_mark x))
+      ap (λ x. cond (ltb k 4294967296) (of_branch (get_or bs k no_branch)) (of_mark x))
       (get_or-set_other ms i (k - 4294967296) b no_mark (λ e. ne (omega arith))))
       (cases_lt k 4294967296)

@@ -7,7 +7,7 @@ use Rattle.tree.specs.Reads.{Ordered, Stood}
 use Rattle.tree.specs.declared.records.Store.{Store}
 use Rattle.tree.proofs.Places.{place_mark, place_branch}
 use Rattle.tree.proofs.Copies.{at_branch, at_mark}
-use Rattle.tree.proofs.Frames.{empty, Found, found, taken, chain-is, few}
+use Rattle.tree.proofs.Frames.{empty, Found, found, taken, chain_is, few}
 
 -- At `at` stands what is left of the node, n records at most, and of that P is known.
 pub record Passing (s : Store) (d at n : ℕ) (P : Shape → Type 0) : Type 0 where
@@ -112,12 +112,12 @@ module _ {s : Store} {d at n : ℕ} {P : Shape → Type 0} (W : Passing s d at n
     pub less : chain n s d next < chain n s d at
     less =
         let steps : (a : ℕ) (r : Records) → Holds s d r → root r ≡ a → siblings (shape r) ≤ n → chain n s d a ≡ siblings (shape r) =
-        λ a r H e le. ap (chain n s d) (sym e) ∙ chain-is s d r n H le in
+        λ a r H e le. ap (chain n s d) (sym e) ∙ chain_is s d r n H le in
         omega (arith, fewer, steps next F.rest (stood_rest W.stood F).stands.holds F.Rest-from (omega (arith, W.turns, fewer)), steps at W.rest W.stood.stands.holds W.stood.from W.turns)
 
 -- below a mark there is nothing
-pub no-below : {s : Store} {d at n : ℕ} {P : Shape → Type 0} (W : Passing s d at n P) {l : Label} {next : ℕ} (F : Found at l 0xffff_ffff next W.rest) → F.below ≡ none
-no-below {s} {d} W F = let S = below W F in empty s (d - 1) F.below S.stands.holds S.from
+pub no_below : {s : Store} {d at n : ℕ} {P : Shape → Type 0} (W : Passing s d at n P) {l : Label} {next : ℕ} (F : Found at l 0xffff_ffff next W.rest) → F.below ≡ none
+no_below {s} {d} W F = let S = below W F in empty s (d - 1) F.below S.stands.holds S.from
 
 -- what is known, at the record that was read
 pub at_fact : {s : Store} {d at n : ℕ} {P : Shape → Type 0} (W : Passing s d at n P) {l : Label} {bel next : ℕ} (F : Found at l bel next W.rest) → P (part l (shape F.below) (shape F.rest))

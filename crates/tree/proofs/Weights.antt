@@ -8,9 +8,9 @@ use Rattle.tree.specs.Links.{tail}
 use Rattle.tree.specs.Reads.{Ordered, weight, sat, Weighs}
 use Rattle.routing.specs.Space.{branches, marks}
 use Rattle.tree.specs.declared.space.Space.{Space}
-use Rattle.tree.proofs.Cuts.{cut-past, cut-here}
+use Rattle.tree.proofs.Cuts.{cut_past, cut_here}
 use Rattle.tree.proofs.Descends.{above_is}
-use Rattle.tree.proofs.Fills.{gaps_stop, gaps_end, gaps_over, gaps-gap}
+use Rattle.tree.proofs.Fills.{gaps_stop, gaps_end, gaps_over, gaps_gap}
 
 -- branches alone
 pub branches_weight : (sh : Shape) → branches_of sh ≡ weight 1 0 sh
@@ -26,39 +26,39 @@ marks_weight (part (rule i) x y) = omega (arith, marks_weight x, marks_weight y)
 
 module _ (p q low high : ℕ) (f : Shape → Shape) where
   -- what a branch is to take, with what follows it
-  under-is :
+  under_is :
       (a b : ℕ) (below rest : Shape)
       → weight p q (under low high f (part (piece a b) below rest))
       ≡ cond (leb low a && leb b high) (p + weight p q (f below)) (p + weight p q below) + weight p q (under low high f rest)
-  under-is a b below rest =
+  under_is a b below rest =
       elim (leb low a && leb b high) as (λ v. p + weight p q (cond v (f below) below) + weight p q (under low high f rest) ≡ cond v (p + weight p q (f below)) (p + weight p q below) + weight p q (under low high f rest))
       [ true ↦ refl | false ↦ refl ]
 
   -- and with the gap before it
-  one-is :
+  one_is :
       (w a b : ℕ) (below rest : Shape) → low ≤ w
       → weight p q (under low high f (gaps w high (part (piece a b) below rest)))
       ≡ cond (leb w high && ltb w a) (p + weight p q (f bare)) 0 + cond (leb low a && leb b high) (p + weight p q (f below)) (p + weight p q below)
       + weight p q (under low high f (gaps (max w (b + 1)) high rest))
-  one-is w a b below rest le =
+  one_is w a b below rest le =
       let u = λ (sh : Shape). weight p q (under low high f sh) in
       ⊎_elim
       (λ past.
       let z : cond (leb w high && ltb w a) (p + weight p q (f bare)) 0 ≡ 0 = cond-false _ _ _ (and_left _ _ (lt-leb w high past)) in
-      let e = ap u (gaps_stop w high (part (piece a b) below rest) past) ∙ under-is a b below rest in
+      let e = ap u (gaps_stop w high (part (piece a b) below rest) past) ∙ under_is a b below rest in
       let g = ap u (gaps_stop (max w (b + 1)) high rest (omega arith)) in
       omega (arith, z, e, g))
       (λ l.
       ⊎_elim
       (λ m.
       let z : cond (leb w high && ltb w a) (p + weight p q (f bare)) 0 ≡ p + weight p q (f bare) = cond-true _ _ _ (and_from _ _ (le-leb w high l) (lt-ltb w a m)) in
-      let e = ap u (gaps-gap w high a b below rest l m) ∙ under-is w (min high (a - 1)) bare (tail w high (part (piece a b) below rest)) in
+      let e = ap u (gaps_gap w high a b below rest l m) ∙ under_is w (min high (a - 1)) bare (tail w high (part (piece a b) below rest)) in
       let i : cond (leb low w && leb (min high (a - 1)) high) (p + weight p q (f bare)) (p + weight p q bare) ≡ p + weight p q (f bare) = cond-true _ _ _ (and_from _ _ (le-leb low w le) (le-leb (min high (a - 1)) high (omega arith))) in
-      let o = under-is a b below (gaps (max w (b + 1)) high rest) in
+      let o = under_is a b below (gaps (max w (b + 1)) high rest) in
       omega (arith, z, e, i, o))
       (λ m.
       let z : cond (leb w high && ltb w a) (p + weight p q (f bare)) 0 ≡ 0 = cond-false _ _ _ (and_right _ _ (le-ltb w a m)) in
-      let e = ap u (gaps_over w high a b below rest l m) ∙ under-is a b below (gaps (max w (b + 1)) high rest) in
+      let e = ap u (gaps_over w high a b below rest l m) ∙ under_is a b below (gaps (max w (b + 1)) high rest) in
       omega (arith, z, e))
       (cases_lt w a))
       (cases_lt high w)
@@ -74,29 +74,29 @@ module _ (p q low high : ℕ) (f : Shape → Shape) where
       (λ l.
       let z : cond (leb w high) (p + weight p q (f bare)) 0 ≡ p + weight p q (f bare) = cond-true _ _ _ (le-leb w high l) in
       let i : cond (leb low w && leb high high) (p + weight p q (f bare)) (p + weight p q bare) ≡ p + weight p q (f bare) = cond-true _ _ _ (and_from _ _ (le-leb low w le) (le-leb high high (omega arith))) in
-      let e = ap (λ sh. weight p q (under low high f sh)) (gaps_end w high l) ∙ under-is w high bare bare in
+      let e = ap (λ sh. weight p q (under low high f sh)) (gaps_end w high l) ∙ under_is w high bare bare in
       omega (arith, z, i, e))
       (cases_lt high w)
 
 -- the cut above a span
-above-past :
+above_past :
     (high a b : ℕ) (below rest : Shape) → (a ≤ high → high < b → ⊥) → b ≤ 0xffff_ffff
     → cut_above high (part (piece a b) below rest) ≡ part (piece a b) below (cut_above high rest)
-above-past high a b below rest out small =
+above_past high a b below rest out small =
     ⊎_elim
     (λ e. cond-true _ _ _ (eq-eqb high 0xffff_ffff e) ∙ sym (ap (part (piece a b) below) (cond-true _ _ _ (eq-eqb high 0xffff_ffff e))))
     (λ ne.
-    above_is high (part (piece a b) below rest) ne ∙ cut-past (high + 1) a b below rest (λ l h. out (omega arith) (omega arith))
+    above_is high (part (piece a b) below rest) ne ∙ cut_past (high + 1) a b below rest (λ l h. out (omega arith) (omega arith))
     ∙ sym (ap (part (piece a b) below) (above_is high rest ne)))
     (cases_eq high 0xffff_ffff)
 
 -- one that has the end and the number after it is cut
-above-here :
+above_here :
     (high a b : ℕ) (below rest : Shape) → a ≤ high → high < b → b ≤ 0xffff_ffff
     → cut_above high (part (piece a b) below rest) ≡ part (piece a high) below (part (piece (high + 1) b) below rest)
-above-here high a b below rest l h small =
+above_here high a b below rest l h small =
     let e : high + 1 - 1 ≡ high = omega arith in
-    above_is high (part (piece a b) below rest) (λ z. omega arith) ∙ cut-here (high + 1) a b below rest (omega arith) (omega arith)
+    above_is high (part (piece a b) below rest) (λ z. omega arith) ∙ cut_here (high + 1) a b below rest (omega arith) (omega arith)
     ∙ ap (λ n. part (piece a n) below (part (piece (high + 1) b) below rest)) e
 
 -- a mark more
@@ -108,13 +108,13 @@ marked p q i (part l b r) = omega (arith, marked p q i r)
 cut_none : (x lo : ℕ) (sh : Shape) → x ≤ lo → Ordered lo sh → cut_at x sh ≡ sh
 cut_none x lo bare le h = refl
 cut_none x lo (part (piece a b) below rest) le h =
-    cut-past x a b below rest (λ l _. omega (arith, h.0)) ∙ ap (part (piece a b) below) (cut_none x (b + 1) rest (omega (arith, h.0, h.1)) h.3)
+    cut_past x a b below rest (λ l _. omega (arith, h.0)) ∙ ap (part (piece a b) below) (cut_none x (b + 1) rest (omega (arith, h.0, h.1)) h.3)
 cut_none x lo (part (rule i) below rest) le h =
     ap (part (rule i) below) (cut_none x (i + 1) rest (omega (arith, h.0)) h.2)
 
 -- nor above
-above-none : (high lo : ℕ) (sh : Shape) → high < lo → Ordered lo sh → cut_above high sh ≡ sh
-above-none high lo sh l h =
+above_none : (high lo : ℕ) (sh : Shape) → high < lo → Ordered lo sh → cut_above high sh ≡ sh
+above_none high lo sh l h =
     cond_both (eqb high 0xffff_ffff) sh (cut_at (high + 1) sh) (λ q. q ≡ sh) (λ _. refl) (λ _. cut_none (high + 1) lo sh (omega arith) h)
 
 -- what is made of a node whose branches lie within the interval or outside, with the gaps from w on
@@ -146,7 +146,7 @@ module _ (p q low high : ℕ) (f : Shape → Shape) (ord : low ≤ high) where
   one_out w a b below rest le out =
       let z : (leb low a && leb b high) ≡ false = grind (arith, nat_tests) in
       let e = cond-false _ (p + weight p q (f below)) (p + weight p q below) z in
-      omega (arith, one-is p q low high f w a b below rest le, e)
+      omega (arith, one_is p q low high f w a b below rest le, e)
 
   -- and one inside
   one_in :
@@ -154,7 +154,7 @@ module _ (p q low high : ℕ) (f : Shape → Shape) (ord : low ≤ high) where
       → made p q low high f w (part (piece a b) below rest) ≡ before p q high f w a + (p + weight p q (f below)) + made p q low high f (max w (b + 1)) rest
   one_in w a b below rest le l h =
       let e = cond-true _ (p + weight p q (f below)) (p + weight p q below) (and_from _ _ (le-leb low a l) (le-leb b high h)) in
-      omega (arith, one-is p q low high f w a b below rest le, e)
+      omega (arith, one_is p q low high f w a b below rest le, e)
 
   -- nothing fits before a branch where all is covered up to there, or past the interval
   no_gap : (w a : ℕ) → (w ≤ high → a ≤ w) → before p q high f w a ≡ 0
@@ -170,7 +170,7 @@ module _ (p q low high : ℕ) (f : Shape → Shape) (ord : low ≤ high) where
 
     -- it is not cut, and lies outside or inside
     uncut : (a < low → low ≤ b → ⊥) → (a ≤ high → high < b → ⊥) → cut_above high (cut_at low (part (piece a b) below rest)) ≡ part (piece a b) below (cut_above high (cut_at low rest))
-    uncut x y = ap (cut_above high) (cut-past low a b below rest x) ∙ above-past high a b below (cut_at low rest) y small
+    uncut x y = ap (cut_above high) (cut_past low a b below rest x) ∙ above_past high a b below (cut_at low rest) y small
 
     -- it lies outside
     all_out : (b < low) ⊎ (high < a) → Counted
@@ -195,9 +195,9 @@ module _ (p q low high : ℕ) (f : Shape → Shape) (ord : low ≤ high) where
         let x : parts_out p q low high a b below ≡ p + weight p q below = grind (arith, nat_tests) in
         let y : part_in p q low high f a b below ≡ p + weight p q (f below) = grind (arith, nat_tests) in
         let e =
-        ap (cut_above high) (cut-here low a b below rest l m)
-        ∙ above-past high a (low - 1) below (part (piece low b) below rest) (λ _ i. omega arith) (omega arith)
-        ∙ ap (part (piece a (low - 1)) below) (above-past high low b below rest (λ _ i. omega arith) small)
+        ap (cut_above high) (cut_here low a b below rest l m)
+        ∙ above_past high a (low - 1) below (part (piece low b) below rest) (λ _ i. omega arith) (omega arith)
+        ∙ ap (part (piece a (low - 1)) below) (above_past high low b below rest (λ _ i. omega arith) small)
         ∙ ap (λ r. part (piece a (low - 1)) below (part (piece low b) below (cut_above high r))) (sym (cut_none low (b + 1) rest (omega arith) tidy))
         in
         let k : max w (low - 1 + 1) ≡ w = omega arith in
@@ -207,7 +207,7 @@ module _ (p q low high : ℕ) (f : Shape → Shape) (ord : low ≤ high) where
 
     -- what follows it is not cut
     above_kept : high < b → low ≤ b → cut_above high (cut_at low rest) ≡ rest
-    above_kept h m = ap (cut_above high) (cut_none low (b + 1) rest (omega arith) tidy) ∙ above-none high (b + 1) rest (omega arith) tidy
+    above_kept h m = ap (cut_above high) (cut_none low (b + 1) rest (omega arith) tidy) ∙ above_none high (b + 1) rest (omega arith) tidy
 
     -- above
     cut_high : low ≤ a → a ≤ high → high < b → Counted
@@ -215,8 +215,8 @@ module _ (p q low high : ℕ) (f : Shape → Shape) (ord : low ≤ high) where
         let x : parts_out p q low high a b below ≡ p + weight p q below = grind (arith, nat_tests) in
         let y : part_in p q low high f a b below ≡ p + weight p q (f below) = grind (arith, nat_tests) in
         let e =
-        ap (cut_above high) (cut-past low a b below rest (λ i _. omega arith))
-        ∙ above-here high a b below (cut_at low rest) m h small
+        ap (cut_above high) (cut_past low a b below rest (λ i _. omega arith))
+        ∙ above_here high a b below (cut_at low rest) m h small
         ∙ ap (λ r. part (piece a high) below (part (piece (high + 1) b) below r)) (cut_none low (b + 1) rest (omega arith) tidy)
         in
         let v = max w (high + 1) in
@@ -233,9 +233,9 @@ module _ (p q low high : ℕ) (f : Shape → Shape) (ord : low ≤ high) where
         let y : part_in p q low high f a b below ≡ p + weight p q (f below) = grind (arith, nat_tests) in
         let top = part (piece (high + 1) b) below rest in
         let e =
-        ap (cut_above high) (cut-here low a b below rest l (omega arith))
-        ∙ above-past high a (low - 1) below (part (piece low b) below rest) (λ _ i. omega arith) (omega arith)
-        ∙ ap (part (piece a (low - 1)) below) (above-here high low b below rest ord h small)
+        ap (cut_above high) (cut_here low a b below rest l (omega arith))
+        ∙ above_past high a (low - 1) below (part (piece low b) below rest) (λ _ i. omega arith) (omega arith)
+        ∙ ap (part (piece a (low - 1)) below) (above_here high low b below rest ord h small)
         in
         let k : max w (low - 1 + 1) ≡ w = omega arith in
         let j = ap (λ n. made p q low high f n (part (piece low high) below top)) k in
@@ -316,10 +316,10 @@ weighs_when true {v = v} V e = subst (λ k. Weighs k v) (sym e) V
 weighs_when false V e = subst (λ k. Weighs k (λ p q. 0)) (sym e) nothing_weighs
 
 -- a branch that is neither inside nor cut on both sides has one part outside
-pub one-part :
+pub one_part :
     (p q low high a b : ℕ) (below : Shape) → ((low ≤ a) × (high < b)) ⊎ (a < low) → ((a < low) × (b ≤ high)) ⊎ (low ≤ a)
     → p + weight p q below ≡ parts_out p q low high a b below
-one-part p q low high a b below x y = grind (arith, nat_tests)
+one_part p q low high a b below x y = grind (arith, nat_tests)
 
 -- one that lies apart has none inside
 pub no_part :
@@ -345,4 +345,4 @@ pub finished :
 finished low high f w le L e T =
     toward_all (λ p q. refl)
     (toward_more (λ p q. 0) L e
-    (λ p q. ap (made p q low high f w) (above-none high (high + 1) bare (omega arith) tt) ∙ end_is p q low high f w le ∙ sym (add-zero _)) T)
+    (λ p q. ap (made p q low high f w) (above_none high (high + 1) bare (omega arith) tt) ∙ end_is p q low high f w le ∙ sym (add-zero _)) T)

@@ -6,7 +6,7 @@ use Rattle.routing.specs.Rules.{matching}
 use Rattle.routing.specs.Space.{branches, marks}
 use Rattle.shape.specs.Shapes.{grown}
 use Rattle.shape.specs.Meaning.{Cell, cells, Right, Ascending}
-use Rattle.tree.specs.Means.{Means, room_of, need_of, lacking, lack-number, Spared}
+use Rattle.tree.specs.Means.{Means, room_of, need_of, lacking, lack_number, Spared}
 use Rattle.tree.specs.Tours.{Lists, Reached}
 use Rattle.tree.specs.declared.all_match.Tree.{Tree}
 use Rattle.tree.specs.declared.all_match.Lack.{Lack}
@@ -32,7 +32,7 @@ NeedsWith x e r = (T : List (List Ends)) → Means x T → r ≡ need_of x.field
 
 -- From x to x' the rule e is appended as number n, unless the rules with it lack space; then nothing changes.
 pub record Appends (x x' : Tree) (e : List Ends) (n : ℕ) (r : Result (Unit {0}) Lack) : Type 0 where
-  pub answer : (T : List (List Ends)) → Means x T → MatchResult r (λ _. lacking x (T ++ e ∷ []) ≡ None) (λ l. lacking x (T ++ e ∷ []) ≡ Some (lack-number l))
+  pub answer : (T : List (List Ends)) → Means x T → MatchResult r (λ _. lacking x (T ++ e ∷ []) ≡ None) (λ l. lacking x (T ++ e ∷ []) ≡ Some (lack_number l))
   pub granted : (T : List (List Ends)) → Means x T → n ≡ length T + 1 → lacking x (T ++ e ∷ []) ≡ None → Means x' (T ++ e ∷ []) × Spared x x'
   pub refused : (T : List (List Ends)) (number : ℕ) → Means x T → lacking x (T ++ e ∷ []) ≡ Some number → x' ≡ x
   pub fields : x'.fields ≡ x.fields

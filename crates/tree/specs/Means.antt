@@ -41,9 +41,9 @@ lacking x T =
     cond (nat_lt (room_of x).branches (branches x.fields 0 T)) (Some 11)
     (cond (nat_lt (room_of x).marks (marks x.fields 0 T)) (Some 12) None)
 
-abbrev pub lack-number : Lack → ℕ
-lack-number Branches = 11
-lack-number Marks = 12
+abbrev pub lack_number : Lack → ℕ
+lack_number Branches = 11
+lack_number Marks = 12
 
 -- From x to x' no record changed that is not taken afterwards.
 abbrev pub Spared : (x x' : Tree) → Type 0

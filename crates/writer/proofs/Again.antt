@@ -17,7 +17,7 @@ use Rattle.writer.specs.Stages.{ends_bytes, row_bytes, head_bytes, room_refusal,
 use Rattle.file.specs.Contents.{blank, rows_of, decision_bytes, decisions_of}
 use Rattle.writer.specs.Tables.{rows_bytes, file_bytes, rows_refusal, table_refusal, first_told, rewrite_refusal}
 use Rattle.writer.proofs.Joins.{joined_parts}
-use Rattle.writer.proofs.Numbers.{Bytes, four-again, ends_again, part_cells, part_bytes}
+use Rattle.writer.proofs.Numbers.{Bytes, four_again, ends_again, part_cells, part_bytes}
 use Rattle.file.proofs.Parts.{part_more, length_part}
 use Rattle.writer.proofs.Rooms.{eight_times, decision_room}
 use Rattle.file.proofs.Refused.{Header, Counts, file_says}
@@ -44,8 +44,8 @@ module _ (bs : List ℕ) (code size : ℕ) (small : Bytes bs) (h : Header bs cod
       let low : n % 256 ≡ byte bs 5 = omega (arith, small 5) in
       let q0 : part 0 4 bs ≡ 1 ∷ d ∷ code ∷ 0 ∷ [] = part_cells bs 0 (omega (arith, h.long)) ∙ rw (h.edition, h.kind, h.zero_3) in
       let q1 : part 4 4 bs ≡ (n / 256) ∷ (n % 256) ∷ 0 ∷ 0 ∷ [] = part_cells bs 4 (omega (arith, h.long)) ∙ rw (h.zero_6, h.zero_7, high, low) in
-      let q2 : part 8 4 bs ≡ four_bytes (rows_at d) = sym (four-again bs 8 small (omega (arith, h.long))) ∙ ap four_bytes k.rows in
-      let q3 : part 12 4 bs ≡ four_bytes (decisions_at d n) = sym (four-again bs 12 small (omega (arith, h.long))) ∙ ap four_bytes k.decisions in
+      let q2 : part 8 4 bs ≡ four_bytes (rows_at d) = sym (four_again bs 8 small (omega (arith, h.long))) ∙ ap four_bytes k.rows in
+      let q3 : part 12 4 bs ≡ four_bytes (decisions_at d n) = sym (four_again bs 12 small (omega (arith, h.long))) ∙ ap four_bytes k.decisions in
       sym
       (part_more 0 4 12 bs
       ∙ ap (λ x. x ++ part 4 12 bs) q0
@@ -85,9 +85,9 @@ module _ {K : Type 0} (written : K → List ℕ) (reading : List ℕ → K) (bs 
       (part_bytes bs _ size small))
 
   -- the whole file
-  pub file-again : file_bytes written code (width_bytes bs) (rows_of bs) (decisions_of reading size bs) ≡ bs
+  pub file_again : file_bytes written code (width_bytes bs) (rows_of bs) (decisions_of reading size bs) ≡ bs
   unfolding file_bytes
-  file-again =
+  file_again =
       let d = fields bs in
       let n = rules bs in
       let lw : length (width_bytes bs) ≡ d = length_part 16 d bs (omega (arith, k.long)) in
@@ -136,12 +136,12 @@ module _ {K : Type 0} (written : K → List ℕ) (reading : List ℕ → K) (bs 
       ∙ rw q
 
   -- what the buffer then holds
-  pub rewrite-after : (out' : List ℕ)
+  pub rewrite_after : (out' : List ℕ)
       → out' ≡ changed (table_refusal ws (rows_of bs) size (length out)) out (put 0 (file_bytes written code ws (rows_of bs) (decisions_of reading size bs)) out)
       → out' ≡ changed (rewrite_refusal bs code size (length out)) out (put 0 bs out)
-  rewrite-after out' e =
+  rewrite_after out' e =
       let s = file_says bs code size lawful in
-      let same : file_bytes written code ws (rows_of bs) (decisions_of reading size bs) ≡ bs = rw q (file-again written reading bs code size small s.0 s.1 again) in
+      let same : file_bytes written code ws (rows_of bs) (decisions_of reading size bs) ≡ bs = rw q (file_again written reading bs code size small s.0 s.1 again) in
       e
       ∙ ap (λ l. changed (table_refusal ws (rows_of bs) size (length out)) out (put 0 l out)) same
       ∙ sym (changed_mapped (table_refusal ws (rows_of bs) size (length out)) out (put 0 bs out))

@@ -22,11 +22,11 @@ use Rattle.writer.specs.Tables.{trimmed, rows_bytes, file_bytes, ReadsAs}
 use Rattle.writer.proofs.Joins.{joined_split, joined_length, front_length}
 use Rattle.writer.proofs.Numbers.{four_back, pair_at}
 use Rattle.file.proofs.Parts.{part_at, counted_items}
-use Rattle.writer.proofs.Puts.{put_put, row-length}
+use Rattle.writer.proofs.Puts.{put_put, row_length}
 use Rattle.writer.proofs.Steps.{rows_done, decisions_done}
 use Rattle.file.proofs.Refused.{header_lawful, counts_lawful, by_body}
 use Rattle.writer.proofs.Rooms.{eight_times}
-use Rattle.file.proofs.Rows.{eight-same}
+use Rattle.file.proofs.Rows.{eight_same}
 use Rattle.routing.proofs.Test.{widths_settled}
 
 -- a row's pair at field k stands in its bytes with 8 * k bytes before it
@@ -89,16 +89,16 @@ module _ {K : Type 0} (written : K → List ℕ) (reading : List ℕ → K) (cod
   row_long : (k : ℕ) → k < n → (x : List Ends) → length (row_bytes d (get_or rows k x)) ≡ 8 * d
   row_long k h x =
       let e : get_or rows k x ≡ get_or rows k blank = get_or_default rows k x blank h in
-      ap (λ es. length (row_bytes d es)) e ∙ row-length d (get_or rows k blank) (omega (arith, eights k h, few))
+      ap (λ es. length (row_bytes d es)) e ∙ row_length d (get_or rows k blank) (omega (arith, eights k h, few))
 
-  decision-long : (k : ℕ) → k < length ds → (x : K) → length (written (get_or ds k x)) ≡ size
-  decision-long k h x = sized (get_or ds k x)
+  decision_long : (k : ℕ) → k < length ds → (x : K) → length (written (get_or ds k x)) ≡ size
+  decision_long k h x = sized (get_or ds k x)
 
   pub rows_long : length (rows_bytes d rows) ≡ 8 * (d * n)
   rows_long = joined_length (row_bytes d) rows (8 * d) row_long ∙ mul_comm n (8 * d) ∙ mul_assoc 8 d n
 
   pub decisions_long : length (flat_map written ds) ≡ n * size
-  decisions_long = joined_length written ds size decision-long ∙ ap (λ m. m * size) (sym paired)
+  decisions_long = joined_length written ds size decision_long ∙ ap (λ m. m * size) (sym paired)
 
   pub file_long : length file ≡ file_length d n size
   file_long =
@@ -142,8 +142,8 @@ module _ {K : Type 0} (written : K → List ℕ) (reading : List ℕ → K) (cod
       )
 
   -- a lawful row's ends are numbers of four bytes
-  small-ends : (r k : ℕ) → r < n → k < d → ((at (get_or rows r blank) k).low < 4294967296) × ((at (get_or rows r blank) k).high < 4294967296)
-  small-ends r k h i =
+  small_ends : (r k : ℕ) → r < n → k < d → ((at (get_or rows r blank) k).low < 4294967296) × ((at (get_or rows r blank) k).high < 4294967296)
+  small_ends r k h i =
       let es = get_or rows r blank in
       let f = and_parts _ _ (not-false _ (none_below (ends_bad ws es) suc d k i (lawful r h))) in
       let w = or_parts _ _ (none_below (width_bad ws) suc d k i width_fine) in
@@ -155,7 +155,7 @@ module _ {K : Type 0} (written : K → List ℕ) (reading : List ℕ → K) (cod
   pair_back : (r k : ℕ) → r < n → k < d → pair file d (r * d + k) ≡ at (get_or rows r blank) k
   pair_back r k h i =
       let p = pair_place r k h i in
-      let s = small-ends r k h i in
+      let s = small_ends r k h i in
       pair_at p.0 p.1 (at (get_or rows r blank) k) file d (r * d + k) s.0 s.1 p.2 p.3
 
   -- each row comes back, but for the pairs past the last field
@@ -163,7 +163,7 @@ module _ {K : Type 0} (written : K → List ℕ) (reading : List ℕ → K) (cod
   unfolding row_of
   row_back r h =
       ap (λ m. eight m (λ k. pair file m (r * m + k))) fields_back
-      ∙ eight-same d (λ k. pair file d (r * d + k)) (at (get_or rows r blank)) (λ k i. pair_back r k h i)
+      ∙ eight_same d (λ k. pair file d (r * d + k)) (at (get_or rows r blank)) (λ k i. pair_back r k h i)
 
   rows_back : rows_of file ≡ map (trimmed d) rows
   rows_back =
@@ -173,13 +173,13 @@ module _ {K : Type 0} (written : K → List ℕ) (reading : List ℕ → K) (cod
       (λ k h. get_or-map (trimmed d) rows k blank blank h ∙ sym (row_back k h)))
 
   -- each decision's bytes come back
-  decision-back : (r : ℕ) (x : K) → r < n → decision_bytes file size r ≡ written (get_or ds r x)
-  decision-back r x h =
+  decision_back : (r : ℕ) (x : K) → r < n → decision_bytes file size r ≡ written (get_or ds r x)
+  decision_back r x h =
       let a = flat_map written (take r ds) in
       let b = flat_map written (drop (suc r) ds) in
       let all = rows_bytes d rows in
       let one = written (get_or ds r x) in
-      let la : length a ≡ r * size = front_length written ds r size (omega arith) decision-long in
+      let la : length a ≡ r * size = front_length written ds r size (omega arith) decision_long in
       let place : length ((front ++ all) ++ a) ≡ decisions_at d n + r * size =
       length-append (front ++ all) a ∙ omega (arith, length-append front all, front_long, rows_long)
       in
@@ -188,9 +188,9 @@ module _ {K : Type 0} (written : K → List ℕ) (reading : List ℕ → K) (cod
       ∙ ap (part (decisions_at d n + r * size) size) (file_is ∙ ap (λ l. front ++ (all ++ l)) (joined_split written ds r x (omega arith)) ∙ regroup_2 front all a one b)
       ∙ part_at ((front ++ all) ++ a) one b (decisions_at d n + r * size) size place (sized (get_or ds r x))
 
-  header-back : header_refusal file code ≡ None
+  header_back : header_refusal file code ≡ None
   unfolding file_bytes
-  header-back =
+  header_back =
       header_lawful file code
       (record {
         long = omega (arith, file_long);
@@ -224,8 +224,8 @@ module _ {K : Type 0} (written : K → List ℕ) (reading : List ℕ → K) (cod
       in
       ap (option_map (λ field. low_at (fields file) (r * fields file + field) - 8)) e)
 
-  pub lawful-back : file_refusal file code size ≡ None
-  lawful-back = by_body file code size None (sym header-back) (sym body)
+  pub lawful_back : file_refusal file code size ≡ None
+  lawful_back = by_body file code size None (sym header_back) (sym body)
     where
       body : body_refusal file size ≡ None
       body = rw (counts_back, widths_back, widths-fine, rows_lawful)
@@ -233,21 +233,21 @@ module _ {K : Type 0} (written : K → List ℕ) (reading : List ℕ → K) (cod
   pub reads_back : ((k : ℕ) → k < length ds → (x : K) → reading (written (get_or ds k x)) ≡ get_or ds k x) → ReadsAs reading code size file ws rows ds
   reads_back kept =
       record {
-        lawful = lawful-back;
+        lawful = lawful_back;
         same_widths = widths_back;
         same_rows = rows_back;
         same_decisions =
             ap (λ m. map (λ r. reading (decision_bytes file size r)) (range_with_len 0 m)) (rules_back ∙ paired)
-            ∙ sym (counted_items (λ r. reading (decision_bytes file size r)) ds (λ k h x. sym (ap reading (decision-back k x (omega arith)) ∙ kept k h x)));
+            ∙ sym (counted_items (λ r. reading (decision_bytes file size r)) ds (λ k h x. sym (ap reading (decision_back k x (omega arith)) ∙ kept k h x)));
       }
 
   -- a plan's stages put the whole file
-  pub table-put : (p : Plan) → Planned ws n code size p → (s : RowStage) → s ≡ rows_done p 0 → (t : DecisionStage) → t ≡ decisions_done p 0
+  pub table_put : (p : Plan) → Planned ws n code size p → (s : RowStage) → s ≡ rows_done p 0 → (t : DecisionStage) → t ≡ decisions_done p 0
       → (out o₁ o₂ o₃ : List ℕ) → o₁ ≡ put 0 (head_bytes d p.rules p.code ++ ws) out
       → o₂ ≡ put (rows_at (plan_fields s.plan)) (rows_bytes (plan_fields s.plan) rows) o₁
       → o₃ ≡ put (decisions_at (plan_fields t.plan) t.plan.rules) (flat_map written ds) o₂ → file_length d n size ≤ length out
       → o₃ ≡ put 0 file out
-  table-put p l s se t te out o₁ o₂ o₃ e₁ e₂ e₃ room =
+  table_put p l s se t te out o₁ o₂ o₃ e₁ e₂ e₃ room =
       let all = rows_bytes d rows in
       let dec = flat_map written ds in
       let f₁ : o₁ ≡ put 0 front out = e₁ ∙ ap (λ m. put 0 (head_bytes d m p.code ++ ws) out) l.of_rules ∙ ap (λ m. put 0 (head_bytes d n m ++ ws) out) l.of_code in

@@ -26,8 +26,8 @@ four_back n h =
     (ap (λ q. q * 256 + q₂ % 256) (sym (shr-shr n 16 8)) ∙ div-add-mod' q₂ 256)
 
 -- wherever it stands
-pub four-at : (ps qs : List ℕ) (n i : ℕ) → n < 4294967296 → length ps ≡ i → four (ps ++ (four_bytes n ++ qs)) i ≡ n
-four-at ps qs n i h e =
+pub four_at_lem : (ps qs : List ℕ) (n i : ℕ) → n < 4294967296 → length ps ≡ i → four (ps ++ (four_bytes n ++ qs)) i ≡ n
+four_at_lem ps qs n i h e =
     let bs = four_bytes n ++ qs in
     let b : (j : ℕ) → byte (ps ++ bs) (i + j) ≡ byte bs j = λ j. ap (λ m. byte (ps ++ bs) (m + j)) (sym e) ∙ get_or-append-add ps bs j 0 in
     let b0 : byte (ps ++ bs) i ≡ byte bs 0 = ap (byte (ps ++ bs)) (sym (add-zero i)) ∙ b 0 in
@@ -44,9 +44,9 @@ pair_at ps qs e bs d k l h s i =
     let at = low_at d k in
     let low = four_bytes e.low in
     let high = four_bytes e.high in
-    let p : four bs at ≡ e.low = ap (λ l. four l at) s ∙ four-at ps (high ++ qs) e.low at l i in
+    let p : four bs at ≡ e.low = ap (λ l. four l at) s ∙ four_at_lem ps (high ++ qs) e.low at l i in
     let q : four bs (at + 4) ≡ e.high =
-    ap (λ l. four l (at + 4)) (s ∙ sym (append_assoc ps low (high ++ qs))) ∙ four-at (ps ++ low) qs e.high (at + 4) h (omega (arith, length-append ps low))
+    ap (λ l. four l (at + 4)) (s ∙ sym (append_assoc ps low (high ++ qs))) ∙ four_at_lem (ps ++ low) qs e.high (at + 4) h (omega (arith, length-append ps low))
     in
     λ j. record { low = p j; high = q j }
 
@@ -79,12 +79,12 @@ part_cells bs i l =
     ∙ rw (e0, at 1 (omega arith), at 2 (omega arith), at 3 (omega arith))
 
 -- what is read, written again, is what stood there
-pub four-again : (bs : List ℕ) (i : ℕ) → Bytes bs → i + 4 ≤ length bs → four_bytes (four bs i) ≡ part i 4 bs
-four-again bs i h l = digits (byte bs i) (byte bs (i + 1)) (byte bs (i + 2)) (byte bs (i + 3)) (h i) (h (i + 1)) (h (i + 2)) (h (i + 3)) ∙ sym (part_cells bs i l)
+pub four_again : (bs : List ℕ) (i : ℕ) → Bytes bs → i + 4 ≤ length bs → four_bytes (four bs i) ≡ part i 4 bs
+four_again bs i h l = digits (byte bs i) (byte bs (i + 1)) (byte bs (i + 2)) (byte bs (i + 3)) (h i) (h (i + 1)) (h (i + 2)) (h (i + 3)) ∙ sym (part_cells bs i l)
 
 pub ends_again : (bs : List ℕ) (d k : ℕ) → Bytes bs → low_at d k + 8 ≤ length bs → ends_bytes (pair bs d k) ≡ part (low_at d k) 8 bs
 ends_again bs d k h l =
     let i = low_at d k in
-    ap (λ x. x ++ four_bytes (four bs (i + 4))) (four-again bs i h (omega arith))
-    ∙ ap (λ y. part i 4 bs ++ y) (four-again bs (i + 4) h (omega arith))
+    ap (λ x. x ++ four_bytes (four bs (i + 4))) (four_again bs i h (omega arith))
+    ∙ ap (λ y. part i 4 bs ++ y) (four_again bs (i + 4) h (omega arith))
     ∙ sym (part_more i 4 4 bs)

@@ -29,10 +29,10 @@ put_put at to xs ys out s h =
     ∙ ap (λ b. p ++ (ys ++ b)) d
     ∙ simp append_assoc
 
-pub row-length : (k : ℕ) (es : List Ends) → k ≤ length es → length (row_bytes k es) ≡ 8 * k
-row-length zero es h = refl
-row-length (suc k) [] h = absurd (omega arith)
-row-length (suc k) (e ∷ es) h = omega (arith, length-append (ends_bytes e) (row_bytes k es), row-length k es (omega arith))
+pub row_length : (k : ℕ) (es : List Ends) → k ≤ length es → length (row_bytes k es) ≡ 8 * k
+row_length zero es h = refl
+row_length (suc k) [] h = absurd (omega arith)
+row_length (suc k) (e ∷ es) h = omega (arith, length-append (ends_bytes e) (row_bytes k es), row_length k es (omega arith))
 
 -- one pair more
 pub row_more : (k : ℕ) (es : List Ends) → k < length es → row_bytes k es ++ ends_bytes (get_or es k no_ends) ≡ row_bytes (k + 1) es

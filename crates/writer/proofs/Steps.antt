@@ -14,7 +14,7 @@ use Rattle.writer.specs.declared.stage.Plan.{Plan}
 use Rattle.writer.specs.declared.stage.RowStage.{RowStage}
 use Rattle.writer.specs.declared.stage.DecisionStage.{DecisionStage}
 use Rattle.writer.proofs.Pieces.{put_piece, length_front}
-use Rattle.writer.proofs.Puts.{row-length}
+use Rattle.writer.proofs.Puts.{row_length}
 use Rattle.writer.proofs.Rooms.{row_room, decision_room}
 
 -- an outcome is granted or refused, and not both
@@ -43,8 +43,8 @@ decision_granted p k code size room h i e f =
     rw (le-ltb room (plan_length p) h, lt-leb p.rules k i, eq-eqb code p.code e, eq-eqb size p.size f)
 
 -- all rows stand, all decisions stand
-pub turn-granted : (p : Plan) (k : ℕ) → p.rules ≤ k → turn_refusal (rows_done p k) ≡ None
-turn-granted p k h = rw (le-ltb k p.rules h)
+pub turn_granted : (p : Plan) (k : ℕ) → p.rules ≤ k → turn_refusal (rows_done p k) ≡ None
+turn_granted p k h = rw (le-ltb k p.rules h)
 
 pub end_granted : (p : Plan) (k : ℕ) → p.rules ≤ k → end_refusal (decisions_done p k) ≡ None
 end_granted p k h = rw (le-ltb k p.rules h)
@@ -64,18 +64,18 @@ pub rows_more : (p : Plan) (rows : List (List Ends)) (es : List Ends) (k : ℕ) 
     (put (low_at (plan_fields p) (k * plan_fields p)) (row_bytes (plan_fields p) es) (rows_put p rows k out) ≡ rows_put p rows (k + 1) out)
 rows_more p rows es k out e h l f n room len =
     let d = plan_fields p in
-    let one : length (row_bytes d es) ≡ 8 * d = row-length d es (omega arith) in (
+    let one : length (row_bytes d es) ≡ 8 * d = row_length d es (omega arith) in (
       length_front (row_bytes d) rows es k e h ∙ omega (arith, add-mul k 1 d),
       put_piece (row_bytes d) rows es k (rows_at d) (low_at d (k * d)) out e h (omega arith) (omega (arith, row_room d p.rules p.size k (length out) (omega arith) room)),
     )
 
 -- one decision more behind those that stand
-pub decisions-more : {K : Type 0} (written : K → List ℕ) (p : Plan) (ds : List K) (x : K) (k : ℕ) (out : List ℕ) → x ≡ get_or ds k x
+pub decisions_more : {K : Type 0} (written : K → List ℕ) (p : Plan) (ds : List K) (x : K) (k : ℕ) (out : List ℕ) → x ≡ get_or ds k x
     → k < length ds → length (written x) ≡ p.size → p.rules ≡ length ds → plan_length p ≤ length out
     → length (flat_map written (take k ds)) ≡ k * p.size
     → (length (flat_map written (take (k + 1) ds)) ≡ (k + 1) * p.size) ×
     (put (decisions_at (plan_fields p) p.rules + k * p.size) (written x) (decisions_put written p ds k out) ≡ decisions_put written p ds (k + 1) out)
-decisions-more written p ds x k out e h l n room len =
+decisions_more written p ds x k out e h l n room len =
     let d = plan_fields p in
     let at = decisions_at d p.rules in (
       length_front written ds x k e h ∙ omega (arith, add-mul k 1 p.size),

@@ -1,6 +1,6 @@
 use Rattle.std.proofs.Common.{◌≡◌, ◌+◌, ◌-◌, length, take, drop, ◌∙◌, arith}
 use Rattle.std.proofs.lemmas.List.{length-take-le, length-drop}
-use Rattle.decision.proofs.Fronts.{front-whole}
+use Rattle.decision.proofs.Fronts.{front_whole}
 use Rattle.writer.proofs.Puts.{put_mid_lem}
 use Rattle.writer.proofs.place.put_decision.Goals as goal
 
@@ -13,6 +13,6 @@ returns g c =
     let long : length bytes ≡ k = omega (arith, g.met.K.Kind.sized c.args.decision, c.decision-size.ensures) in
     let room : length (take k (drop at out)) ≡ k = length-take-le k (drop at out) (omega (arith, length-drop at out, c.decision-size.ensures)) in
     record {
-      after = put_mid_lem at k out _ bytes (c.write.ensures.after ∙ front-whole bytes _ (omega arith)) long;
+      after = put_mid_lem at k out _ bytes (c.write.ensures.after ∙ front_whole bytes _ (omega arith)) long;
       kept = c.write.ensures.kept;
     }

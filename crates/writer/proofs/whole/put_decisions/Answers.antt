@@ -7,7 +7,7 @@ use Rattle.writer.specs.Stages.{put, plan_fields, plan_length, end_refusal, deci
 use Rattle.fault.specs.Faults.{write_reason}
 use Rattle.file.proofs.Parts.{nth_there}
 use Rattle.writer.proofs.Puts.{put_none}
-use Rattle.writer.proofs.Steps.{never_both, same_granted, decisions_done, decision_granted, decision_stepped, decisions-more, end_granted}
+use Rattle.writer.proofs.Steps.{never_both, same_granted, decisions_done, decision_granted, decision_stepped, decisions_more, end_granted}
 use Rattle.writer.proofs.whole.put_decisions.Goals as goal
 
 pub loop-rule-init : goal.loop-rule-init
@@ -46,7 +46,7 @@ loop-rule-preserved g c =
     c.in-Next.ensures.after
     in
     let here : (y : g.row.K.Denot) → x ≡ get_or ds k y = λ y. let e = c.in-Some.ensures ∙ slice_get-get_or ds k y below in cc in
-    let more = decisions-more written p ds x k c.args.out.now (here x) below (g.met.K.Kind.sized x ∙ sym c.requires.kind.1) c.requires.counted c.requires.room c.loop-rule.invariant.1 in
+    let more = decisions_more written p ds x k c.args.out.now (here x) below (g.met.K.Kind.sized x ∙ sym c.requires.kind.1) c.requires.counted c.requires.room c.loop-rule.invariant.1 in
     let none =
     ap (λ s. decision_refusal s g.K.Kind.code g.K.Kind.size (length c.loop-rule.out)) c.loop-rule.invariant.0
     ∙ decision_granted p k _ _ _ room (omega (arith, c.requires.counted)) (sym c.requires.kind.0) (sym c.requires.kind.1)

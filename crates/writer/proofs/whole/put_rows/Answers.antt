@@ -8,7 +8,7 @@ use Rattle.fault.specs.Faults.{write_reason}
 use Rattle.file.specs.Contents.{blank}
 use Rattle.writer.specs.Tables.{rows_bytes}
 use Rattle.writer.proofs.Puts.{put_none}
-use Rattle.writer.proofs.Steps.{never_both, same_granted, rows_done, row_stepped, rows_more, turn-granted}
+use Rattle.writer.proofs.Steps.{never_both, same_granted, rows_done, row_stepped, rows_more, turn_granted}
 use Rattle.writer.proofs.whole.put_rows.Goals as goal
 
 pub loop-rule-init : goal.loop-rule-init
@@ -52,6 +52,6 @@ returns g c =
       answer =
           c.turn.ensures
           ∙ ap (λ s. judged (turn_refusal s) s (turned s)) c.loop-rule.invariant.0
-          ∙ ap (λ r. judged r (rows_done p k) (turned c.args.start)) (turn-granted p k (omega (arith, c.requires.counted)));
+          ∙ ap (λ r. judged r (rows_done p k) (turned c.args.start)) (turn_granted p k (omega (arith, c.requires.counted)));
       after = c.loop-rule.invariant.2 ∙ ap (λ l. put (rows_at d) (rows_bytes d l) c.args.out.now) (take_all k rows all);
     }

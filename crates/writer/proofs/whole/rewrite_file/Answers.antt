@@ -3,7 +3,7 @@ use Rattle.std.specs.Option.{option_map}
 use Rattle.std.proofs.lemmas.Result.{MatchResult-weaker}
 use Rattle.routing.specs.Refusals.{told_by}
 use Rattle.routing.specs.declared.refusal.Layer.TheVariants.{Writer}
-use Rattle.writer.proofs.Again.{rewrite_reason, rewrite-after, rewrite_long}
+use Rattle.writer.proofs.Again.{rewrite_reason, rewrite_after, rewrite_long}
 use Rattle.writer.proofs.whole.rewrite_file.Goals as goal
 
 pub returns : goal.returns
@@ -18,5 +18,5 @@ returns g c =
           MatchResult-weaker c.write-table.result c.write-table.ensures.answer
           (λ n h. (reason ∙ ap (option_map (told_by Writer)) h.0, h.1 ∙ rewrite_long m.written m.reading bs _ out m.code m.size c.requires.bytes again c.requires.lawful c.widths.ensures))
           (λ e h. reason ∙ ap (option_map (told_by Writer)) h);
-      after = rewrite-after m.written m.reading bs _ out m.code m.size c.requires.bytes again c.requires.lawful c.widths.ensures _ c.write-table.ensures.after;
+      after = rewrite_after m.written m.reading bs _ out m.code m.size c.requires.bytes again c.requires.lawful c.widths.ensures _ c.write-table.ensures.after;
     }

@@ -7,7 +7,7 @@ use Rattle.writer.specs.Stages.{put, plan_length, start_refusal, changed, turned
 use Rattle.file.specs.Contents.{blank}
 use Rattle.writer.specs.Tables.{rows_refusal, table_refusal, file_bytes}
 use Rattle.writer.proofs.Steps.{same_granted, planned_length, decisions_done, start_settled}
-use Rattle.writer.proofs.Back.{reads_back, table-put}
+use Rattle.writer.proofs.Back.{reads_back, table_put}
 use Rattle.writer.proofs.whole.write_table.Goals as goal
 
 pub put-rows-requires : goal.put-rows-requires
@@ -52,7 +52,7 @@ returns-in-Done g c =
     record {
       answer = (fine, same_granted c.in-Done.ensures.answer ∙ ap (λ t. plan_length t.plan) next ∙ planned_length ws (length rows) code size p l);
       after =
-          table-put g.K.Kind.written g.K.Kind.reading code size ws rows ds s.1 paired s.0 eights lawful g.met.K.Kind.sized p l _ first _ next out _ _ _ c.start-stage.ensures.after c.in-Next.ensures.after c.in-Done.ensures.after s.2
+          table_put g.K.Kind.written g.K.Kind.reading code size ws rows ds s.1 paired s.0 eights lawful g.met.K.Kind.sized p l _ first _ next out _ _ _ c.start-stage.ensures.after c.in-Next.ensures.after c.in-Done.ensures.after s.2
           ∙ sym (ap (λ r. changed r out (put 0 (file_bytes g.K.Kind.written code ws rows ds) out)) fine);
       again = λ _. reads_back g.K.Kind.written g.K.Kind.reading code size ws rows ds s.1 paired s.0 eights lawful g.met.K.Kind.sized c.in-Done.ensures.kept;
     }

@@ -7,7 +7,7 @@ use Rattle.tree.specs.Links.{Records, shape, Became}
 use Rattle.tree.specs.Means.{Means, lacking}
 use Rattle.routing.specs.declared.ends.Ends.{Ends}
 use Rattle.tree.proofs.Recovers.{recovered}
-use Rattle.tree.proofs.Meanings.{upward, enough, rule_fits, meant-more, room_kept, lacks_nothing, lacks_branches, lacks_marks}
+use Rattle.tree.proofs.Meanings.{upward, enough, rule_fits, meant_more, room_kept, lacks_nothing, lacks_branches, lacks_marks}
 use Rattle.tree.proofs.all_match.Tree.grow.Goals as goal
 
 -- the rules with the new one
@@ -61,7 +61,7 @@ returns c =
       granted =
           λ T e next _.
           let (u, B) = became T e next in
-          (∣ meant-more (recovered e) es c.requires.proper c.first-of.result.now c.args.number c.first-of.ensures next c.append-self.new.self c.append-self.result u B ∣₁, λ k z. (B.change.spare k z).1);
+          (∣ meant_more (recovered e) es c.requires.proper c.first-of.result.now c.args.number c.first-of.ensures next c.append-self.new.self c.append-self.result u B ∣₁, λ k z. (B.change.spare k z).1);
       refused = λ T n e h. absurd (some_none h (told T e));
       fields = refl;
       room = (let (T, e, next) = c.requires.means in let (u, B) = became T e next in room_kept x c.append-self.new.self c.append-self.result (recovered e).records.0 u B.change);

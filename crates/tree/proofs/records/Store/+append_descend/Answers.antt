@@ -6,9 +6,9 @@ use Rattle.tree.specs.Links.{Records, shape, Fits, Became}
 use Rattle.tree.specs.declared.records.Store.{Store}
 use Rattle.routing.specs.declared.ends.Ends.{Ends}
 use Rattle.tree.proofs.Copies.{written_branch}
-use Rattle.tree.proofs.Changing.{start, alive_branch, see-branch, stands, pass, less, done}
+use Rattle.tree.proofs.Changing.{start, alive_branch, see_branch, stands, pass, less, done}
 use Rattle.tree.proofs.Grows.{Grows}
-use Rattle.tree.proofs.Descends.{first_ends, other_ends, no_ends, under-past, below-fits, alive-after, turn_change, turned, ends_split, ahead, onward, chained, under_grows, insert_grows}
+use Rattle.tree.proofs.Descends.{first_ends, other_ends, no_ends, under_past, below_fits, alive_after, turn_change, turned, ends_split, ahead, onward, chained, under_grows, insert_grows}
 use Rattle.tree.proofs.records.Store.+append_descend.Goals as goal
 
 pub append-add-mark-requires : goal.append-add-mark-requires
@@ -88,33 +88,33 @@ descend-branch-b-requires t c =
 pub descend-loop-at-smaller-then-b-ends : goal.descend-loop-at-smaller-then-b-ends
 descend-loop-at-smaller-then-b-ends t c =
     let W = c.loop-at.invariant _ c.requires.0.1 in
-    let F = see-branch _ _ _ _ W (omega (arith, c.requires.1.0)) c.loop-at-test.true c.branch-b.ensures in
+    let F = see_branch _ _ _ _ W (omega (arith, c.requires.1.0)) c.loop-at-test.true c.branch-b.ensures in
     less W F _ (stands W F).holds.3
 
 pub descend-loop-at-preserved-then-b-ends : goal.descend-loop-at-preserved-then-b-ends
 descend-loop-at-preserved-then-b-ends t c tree K =
     let W = c.loop-at.invariant tree K in
-    let F = see-branch _ _ _ _ W (omega (arith, c.requires.1.0)) c.loop-at-test.true c.branch-b.ensures in
-    pass W F _ (under-past c.args.ends.low c.args.ends.high c.args.rest.now c.args.i W F c.then-b-ends.either)
+    let F = see_branch _ _ _ _ W (omega (arith, c.requires.1.0)) c.loop-at-test.true c.branch-b.ensures in
+    pass W F _ (under_past c.args.ends.low c.args.ends.high c.args.rest.now c.args.i W F c.then-b-ends.either)
 
 pub descend-append-below-requires : goal.descend-append-below-requires
 descend-append-below-requires t c =
     let W = c.loop-at.invariant _ c.requires.0.1 in
-    let F = see-branch _ _ _ _ W (omega (arith, c.requires.1.0)) c.loop-at-test.true c.branch-b.ensures in
-    (omega (arith, c.decreases, c.requires.1.0), ((F.below, below-fits c.args.ends.low c.args.ends.high c.args.rest.now c.args.i W F c.if-b-ends.false c.if-ends-b.false), (omega (arith, c.requires.1.0), c.requires.1.1)))
+    let F = see_branch _ _ _ _ W (omega (arith, c.requires.1.0)) c.loop-at-test.true c.branch-b.ensures in
+    (omega (arith, c.decreases, c.requires.1.0), ((F.below, below_fits c.args.ends.low c.args.ends.high c.args.rest.now c.args.i W F c.if-b-ends.false c.if-ends-b.false), (omega (arith, c.requires.1.0), c.requires.1.1)))
 
 pub descend-write-branch-requires : goal.descend-write-branch-requires
 descend-write-branch-requires t c =
     let W = c.loop-at.invariant _ c.requires.0.1 in
-    let F = see-branch _ _ _ _ W (omega (arith, c.requires.1.0)) c.loop-at-test.true c.branch-b.ensures in
-    let (u, B) = c.append-below.ensures F.below (below-fits c.args.ends.low c.args.ends.high c.args.rest.now c.args.i W F c.if-b-ends.false c.if-ends-b.false) in
-    alive-after c.args.ends.low c.args.ends.high c.args.rest.now c.args.i W F c.if-b-ends.false c.if-ends-b.false _ _ u B (omega (arith, c.requires.1.0))
+    let F = see_branch _ _ _ _ W (omega (arith, c.requires.1.0)) c.loop-at-test.true c.branch-b.ensures in
+    let (u, B) = c.append-below.ensures F.below (below_fits c.args.ends.low c.args.ends.high c.args.rest.now c.args.i W F c.if-b-ends.false c.if-ends-b.false) in
+    alive_after c.args.ends.low c.args.ends.high c.args.rest.now c.args.i W F c.if-b-ends.false c.if-ends-b.false _ _ u B (omega (arith, c.requires.1.0))
 
 pub descend-loop-at-smaller : goal.descend-loop-at-smaller
 descend-loop-at-smaller t c =
     let W = c.loop-at.invariant _ c.requires.0.1 in
-    let F = see-branch _ _ _ _ W (omega (arith, c.requires.1.0)) c.loop-at-test.true c.branch-b.ensures in
-    let (u, B) = c.append-below.ensures F.below (below-fits c.args.ends.low c.args.ends.high c.args.rest.now c.args.i W F c.if-b-ends.false c.if-ends-b.false) in
+    let F = see_branch _ _ _ _ W (omega (arith, c.requires.1.0)) c.loop-at-test.true c.branch-b.ensures in
+    let (u, B) = c.append-below.ensures F.below (below_fits c.args.ends.low c.args.ends.high c.args.rest.now c.args.i W F c.if-b-ends.false c.if-ends-b.false) in
     let Q = written_branch _ _ c.args.left _ _ (λ z. omega (arith, c.requires.1.0)) c.write-branch.ensures in
     less W F _
     (turn_change c.args.ends.low c.args.ends.high c.args.rest.now c.args.i W F c.if-b-ends.false c.if-ends-b.false _ _ _ u B Q).holds.3
@@ -122,8 +122,8 @@ descend-loop-at-smaller t c =
 pub descend-loop-at-preserved : goal.descend-loop-at-preserved
 descend-loop-at-preserved t c tree K =
     let W = c.loop-at.invariant tree K in
-    let F = see-branch _ _ _ _ W (omega (arith, c.requires.1.0)) c.loop-at-test.true c.branch-b.ensures in
-    let (u, B) = c.append-below.ensures F.below (below-fits c.args.ends.low c.args.ends.high c.args.rest.now c.args.i W F c.if-b-ends.false c.if-ends-b.false) in
+    let F = see_branch _ _ _ _ W (omega (arith, c.requires.1.0)) c.loop-at-test.true c.branch-b.ensures in
+    let (u, B) = c.append-below.ensures F.below (below_fits c.args.ends.low c.args.ends.high c.args.rest.now c.args.i W F c.if-b-ends.false c.if-ends-b.false) in
     let Q = written_branch _ _ c.args.left _ _ (λ z. omega (arith, c.requires.1.0)) c.write-branch.ensures in
     turned c.args.ends.low c.args.ends.high c.args.rest.now c.args.i W F c.if-b-ends.false c.if-ends-b.false _ _ _ u B Q
 

@@ -3,7 +3,7 @@ use Rattle.shape.specs.Shapes.{branches_of, marks_of}
 use Rattle.tree.specs.Links.{none, shape, place}
 use Rattle.tree.proofs.Places.{one_self, place_mark, place_branch}
 use Rattle.tree.proofs.Frames.{found, taken}
-use Rattle.tree.proofs.Copies.{at_branch, at_mark, new_branch, new_mark, below-copiable, found-copiable, copied-one, copied_none, grows, begun, turn, falls, done}
+use Rattle.tree.proofs.Copies.{at_branch, at_mark, new_branch, new_mark, below_copiable, found_copiable, copied_one, copied_none, grows, begun, turn, falls, done}
 use Rattle.tree.proofs.Reading.{below}
 use Rattle.tree.proofs.records.Store.+copy_branch_copy_node.Goals as goal
 
@@ -25,20 +25,20 @@ pub copy-branch-copy-node-below-requires : goal.copy-branch-copy-node-below-requ
 copy-branch-copy-node-below-requires t c =
     let K = c.requires.0.1 in
     let F = found c.args.self.now _ _ _ _ _ _ K.stands.holds K.from c.requires.1 (at_branch c.args.self.now _ _ _ c.if-left-eq0.false c.branch-b.ensures) in
-    (omega (arith, c.decreases, c.if-left-eq0.false), (F.below, found-copiable _ _ _ _ _ _ _ K F))
+    (omega (arith, c.decreases, c.if-left-eq0.false), (F.below, found_copiable _ _ _ _ _ _ _ K F))
 
 pub copy-branch-push-branch-requires : goal.copy-branch-push-branch-requires
 copy-branch-push-branch-requires t c =
     let K = c.requires.0.1 in
     let F = found c.args.self.now _ _ _ _ _ _ K.stands.holds K.from c.requires.1 (at_branch c.args.self.now _ _ _ c.if-left-eq0.false c.branch-b.ensures) in
-    let (u, C) = c.copy-node-below.ensures F.below (found-copiable _ _ _ _ _ _ _ K F) in
+    let (u, C) = c.copy-node-below.ensures F.below (found_copiable _ _ _ _ _ _ _ K F) in
     omega (arith, K.room, ap (λ t. branches_of (shape t)) F.is, C.change.branches, ap branches_of C.same, C.change.all)
 
 pub copy-branch-returns-then-left-eq0 : goal.copy-branch-returns-then-left-eq0
 copy-branch-returns-then-left-eq0 t c l below rest K =
     let read = at_mark c.args.self.now _ _ _ c.if-left-eq0.true c.mark-m.ensures in (
       none,
-      copied-one _ _ _ _ _ _ _ _ _ _ _ _ _ _ K.stands.holds read (copied_none _ _ _ _ _ _ _ _ K.stands.holds read)
+      copied_one _ _ _ _ _ _ _ _ _ _ _ _ _ _ K.stands.holds read (copied_none _ _ _ _ _ _ _ _ K.stands.holds read)
           c.push-mark.ensures.low
           (new_mark _ _ _ _ _ c.if-left-eq0.true c.push-mark.ensures.new),
     )
@@ -46,9 +46,9 @@ copy-branch-returns-then-left-eq0 t c l below rest K =
 pub copy-branch-returns-else-left-eq0 : goal.copy-branch-returns-else-left-eq0
 copy-branch-returns-else-left-eq0 t c l below rest K =
     let read = at_branch c.args.self.now _ _ _ c.if-left-eq0.false c.branch-b.ensures in
-    let (u, C) = c.copy-node-below.ensures below (below-copiable _ _ _ _ _ _ _ _ _ K read) in (
+    let (u, C) = c.copy-node-below.ensures below (below_copiable _ _ _ _ _ _ _ _ _ K read) in (
       u,
-      copied-one _ _ _ _ _ _ _ _ _ _ _ _ _ _ K.stands.holds read C c.push-branch.ensures.low
+      copied_one _ _ _ _ _ _ _ _ _ _ _ _ _ _ K.stands.holds read C c.push-branch.ensures.low
           (new_branch _ _ _ _ _ c.if-left-eq0.false c.push-branch.ensures.new),
     )
 

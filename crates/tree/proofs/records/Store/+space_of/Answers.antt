@@ -1,7 +1,7 @@
 use Rattle.std.proofs.Common.{◌+◌, ◌<◌, refl, ap, arith}
 use Rattle.tree.specs.Links.{shape}
 use Rattle.tree.specs.Reads.{weight}
-use Rattle.tree.proofs.Reading.{begin, stays_branch, stays_mark, seen_branch, seen_mark, ended, below, after, less, no-below}
+use Rattle.tree.proofs.Reading.{begin, stays_branch, stays_mark, seen_branch, seen_mark, ended, below, after, less, no_below}
 use Rattle.tree.proofs.Weights.{toward_none, toward_more, toward_all, branch_weighs, mark_weighs}
 use Rattle.tree.proofs.records.Store.+space_of.Goals as goal
 
@@ -21,7 +21,7 @@ loop-at-preserved-then-left-eq0 t c u S =
     let W = c.loop-at.invariant u S in
     let F = seen_mark W c.if-left-eq0.true c.loop-at-test.true c.mark-m.ensures in
     after W F _
-    (toward_more _ mark_weighs c.plus-sum.ensures (λ p q. omega (arith, ap (λ b. weight p q (shape b)) (no-below W F))))
+    (toward_more _ mark_weighs c.plus-sum.ensures (λ p q. omega (arith, ap (λ b. weight p q (shape b)) (no_below W F))))
 
 pub branch-b-requires : goal.branch-b-requires
 branch-b-requires t c = stays_branch (c.loop-at.invariant _ c.requires.1) (omega (arith, c.if-left-eq0.false)) c.loop-at-test.true

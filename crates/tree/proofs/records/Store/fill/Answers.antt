@@ -1,6 +1,6 @@
 use Rattle.std.proofs.Common.{arith}
 use Rattle.tree.proofs.Copies.{new_branch}
-use Rattle.tree.proofs.Fills.{tail_fits, room_first, first_kept, first-filled}
+use Rattle.tree.proofs.Fills.{tail_fits, room_first, first_kept, first_filled}
 use Rattle.tree.proofs.records.Store.fill.Goals as goal
 
 pub gap-before-gap-requires : goal.gap-before-gap-requires
@@ -22,7 +22,7 @@ pub returns-in-Some : goal.returns-in-Some
 returns-in-Some c t K =
     let G = c.gap-before-gap.ensures t K.stands K.from in
     let (u, B) = c.fill-after.ensures t (tail_fits _ _ _ _ _ t K _ G) in
-    first-filled _ _ _ _ _ t K _ u B c.in-Some.to (c.in-Some.ensures t K.stands K.from) _ _ c.push-branch.ensures.low
+    first_filled _ _ _ _ _ t K _ u B c.in-Some.to (c.in-Some.ensures t K.stands K.from) _ _ c.push-branch.ensures.low
     (new_branch _ _ c.args.left _ _ (λ z. omega (arith, c.requires.1.0)) c.push-branch.ensures.new)
 
 pub returns-in-None : goal.returns-in-None

@@ -1,8 +1,8 @@
 use Rattle.tree.specs.Links.{shape}
-use Rattle.tree.proofs.Weights.{weighs_as, weighs_both, branch_weighs, one-part}
+use Rattle.tree.proofs.Weights.{weighs_as, weighs_both, branch_weighs, one_part}
 use Rattle.tree.proofs.records.Store.outside.Goals as goal
 
 pub returns : goal.returns
 returns c t S =
-    weighs_as _ (λ p q. one-part p q c.args.ends.low c.args.ends.high c.args.b.low c.args.b.high (shape t) c.else-ends-b.either c.else-b-ends-2.either)
+    weighs_as _ (λ p q. one_part p q c.args.ends.low c.args.ends.high c.args.b.low c.args.b.high (shape t) c.else-ends-b.either c.else-b-ends-2.either)
     (weighs_both branch_weighs (c.space-of.ensures t S) c.plus-part.ensures)

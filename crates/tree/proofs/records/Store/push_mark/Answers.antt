@@ -1,5 +1,5 @@
 use Rattle.std.proofs.Common.{length, sym, refl, add-zero, arith, length-set, rules}
-use Rattle.tree.proofs.Places.{space_le, space_low, live-more-marks, put_mark_here, put_mark_other}
+use Rattle.tree.proofs.Places.{space_le, space_low, live_more_marks, put_mark_here, put_mark_other}
 use Rattle.tree.proofs.records.Store.push_mark.Goals as goal
 
 pub bounds-self-at : goal.bounds-self-at
@@ -15,7 +15,7 @@ returns c =
       new =
           record {
             here = put_mark_here s.branches.now s.marks.now s.marked c.args.m (omega arith);
-            alive = λ k. live-more-marks _ s.marked _ _ k c.requires (length-set _ _ _);
+            alive = λ k. live_more_marks _ s.marked _ _ k c.requires (length-set _ _ _);
             keeps = put_mark_other _ _ _ _;
             room = record { branches = sym (add-zero _); marks = refl; all = refl; all_marks = simp length-set };
           };
