@@ -1,4 +1,6 @@
 // Worked examples and refusals, as tests of the crates below.
+#![tactic(auto)]
+
 #[cfg(test)]
 mod fields;
 #[cfg(test)]

@@ -1,4 +1,6 @@
 // The file of a routing table, read where the caller keeps it.
+#![tactic(auto)]
+
 mod checks;
 mod number;
 pub mod reader;

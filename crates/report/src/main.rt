@@ -1,4 +1,6 @@
 // Reads the file of a routing table from standard input, prints what it holds, writes it again and says whether the bytes are the same.
+#![tactic(auto)]
+
 ghost use Rattle.std.specs.Prelude.{◌≤◌, length, IfOk};
 
 use decision::bytes::byte_at;

@@ -1,4 +1,6 @@
 // The vocabulary of routing tables: fields and their widths, messages, intervals, rules and refusals.
+#![tactic(auto)]
+
 pub mod ends;
 pub mod refusal;
 pub mod rule;

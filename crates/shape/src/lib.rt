@@ -1,4 +1,6 @@
 // Theorems on the tree of a list of rules. Each function's contract is one, and its body says nothing.
+#![tactic(auto)]
+
 ghost use Rattle.shape.specs.Examples.{WorkedTrees};
 ghost use Rattle.shape.specs.Meaning.{GrownMore, SpaceIsExact, OrderIsKept, LookUpIsRight, CellsAreRight, CellsCover};
 

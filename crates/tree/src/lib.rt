@@ -1,4 +1,6 @@
 // The all-match tree of a table's rules, in records that the caller lends. It knows intervals and rule numbers, and no decisions.
+#![tactic(auto)]
+
 mod access;
 pub mod all_match;
 mod copy;

@@ -1,4 +1,6 @@
 // Reads the file of a routing table from standard input, grows the tree of its rules and prints the tree's space, and what matches at each rule's low corner.
+#![tactic(auto)]
+
 ghost use Rattle.std.specs.Prelude.{◌≤◌, length, IfOk};
 
 mod space;
