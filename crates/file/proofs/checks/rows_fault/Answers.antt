@@ -15,5 +15,5 @@ pub loop-rule-preserved : goal.loop-rule-preserved
 loop-rule-preserved c =
     let bs = c.args.bytes.now in
     let r = c.loop-rule.rule in
-    let here = row_placed bs c.args.d r _ _ _ c.requires.of_fields c.requires.of_widths c.row-at.ensures c.in-default.ensures in
+    let here = row_placed bs c.args.d r _ _ _ c.requires.of_fields c.requires.of_widths c.row-at.ensures c.in_default.ensures in
     some_more (row_place bs) r c.loop-rule.invariant here

@@ -9,5 +9,5 @@ returns-in-Some g c = sym (by_header _ _ _ _ (c.in-Some.ensures ∙ ap (header_r
 pub returns : goal.returns
 returns g c =
     sym
-    (by_body _ _ _ _ (c.in-default.ensures ∙ ap (header_refusal c.args.bytes.now) c.kind-code.ensures)
+    (by_body _ _ _ _ (c.in_default.ensures ∙ ap (header_refusal c.args.bytes.now) c.kind-code.ensures)
     (c.body-fault.ensures ∙ ap (body_refusal c.args.bytes.now) c.decision-size.ensures))

@@ -16,7 +16,7 @@ append-requires g c =
       means = (T, e, omega (arith, n));
       proper =
           lawful_proper c.loop-rule.tree.fields (widths_of c.args.widths) c.row-ends.result c.loop-rule.invariant.1 c.args.widths.tested long
-          (sym c.in-default.ensures);
+          (sym c.in_default.ensures);
     }
 
 -- a refused append leaves the tree
@@ -29,6 +29,6 @@ returns-in-Err g c =
 pub loop-rule-preserved : goal.loop-rule-preserved
 loop-rule-preserved g c =
     let (T, e, n) = c.loop-rule.invariant.0 in
-    let A = c.in-default-append.ensures in
+    let A = c.in_default-append.ensures in
     let es = c.row-ends.result in
     ((T ++ es ∷ [], (A.granted T e (omega (arith, n)) (A.answer T e)).0, omega (arith, length-append T (es ∷ []), n)), A.fields ∙ c.loop-rule.invariant.1)

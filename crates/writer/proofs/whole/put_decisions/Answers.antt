@@ -16,9 +16,9 @@ loop-rule-init g c =
     (ap (decisions_done p) c.requires.begun, omega arith, sym (put_none (decisions_at (plan_fields p) p.rules) c.args.out.now), λ k h x. absurd (omega arith))
 
 -- each rule below the count has a decision
-pub returns-in-default : goal.returns-in-default
-returns-in-default g c =
-    nth_there (g.R.Rules.decisions c.args.rules.now) c.loop-rule.rule (omega (arith, c.count-rule-end.ensures.of-decisions)) c.in-default.ensures
+pub returns-in_default : goal.returns-in_default
+returns-in_default g c =
+    nth_there (g.R.Rules.decisions c.args.rules.now) c.loop-rule.rule (omega (arith, c.count-rule-end.ensures.of-decisions)) c.in_default.ensures
 
 pub returns-in-Refused : goal.returns-in-Refused
 returns-in-Refused g c =

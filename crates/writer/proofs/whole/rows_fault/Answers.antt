@@ -21,7 +21,7 @@ loop-rule-preserved g c =
     let ws = widths_of c.args.widths in
     let rows = g.R.Rules.rows c.args.rules.now in
     let k = c.loop-rule.rule in
-    let here : ends_refusal ws (get_or rows k blank) ≡ None = ap (ends_refusal ws) (sym c.row.ensures) ∙ sym c.in-default.ensures in
+    let here : ends_refusal ws (get_or rows k blank) ≡ None = ap (ends_refusal ws) (sym c.row.ensures) ∙ sym c.in_default.ensures in
     let long : length c.row.result ≡ 8 = search rules in (
       some_more (λ r. ends_refusal ws (get_or rows r blank)) k c.loop-rule.invariant.0 here,
       below_more _ _ c.loop-rule.invariant.1 (ap length (sym c.row.ensures) ∙ long),

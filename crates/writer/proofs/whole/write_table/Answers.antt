@@ -18,7 +18,7 @@ put-rows-requires g c =
     let planned = c.in-ok-plan.ensures.1 in
     let room = (start_settled ws c.count.result g.K.Kind.size (length c.args.out.now) c.in-ok-plan.ensures.0).2 in
     let same = c.start-stage.ensures.answer in
-    let none : rows_refusal (widths_of p.widths) rows ≡ None = sym c.in-default.ensures.value in
+    let none : rows_refusal (widths_of p.widths) rows ≡ None = sym c.in_default.ensures.value in
     record {
       begun = ap (λ s. s.done) same;
       counted = ap (λ s. s.plan.rules) same ∙ planned.of_rules ∙ c.count.ensures.of-rows;
@@ -42,10 +42,10 @@ returns-in-Done g c =
     in
     let begun : start_refusal ws (length rows) size (length out) ≡ None = ap (λ m. start_refusal ws m size (length out)) (sym n) ∙ c.in-ok-plan.ensures.0 in
     let s = start_settled ws (length rows) size (length out) begun in
-    let none : rows_refusal ws rows ≡ None = ap (λ vs. rows_refusal vs rows) (sym l.of_widths) ∙ sym c.in-default.ensures.value in
+    let none : rows_refusal ws rows ≡ None = ap (λ vs. rows_refusal vs rows) (sym l.of_widths) ∙ sym c.in_default.ensures.value in
     let fine : table_refusal ws rows size (length out) ≡ None = rw (begun, none) in
     let lawful : (k : ℕ) → k < length rows → ends_refusal ws (get_or rows k blank) ≡ None = λ k h. some_none (λ r. ends_refusal ws (get_or rows r blank)) (length rows) k h none in
-    let eights = c.in-default.ensures.eights refl in
+    let eights = c.in_default.ensures.eights refl in
     let paired = sym n ∙ c.count.ensures.of-decisions in
     let first = c.start-stage.ensures.answer in
     let next : c.in-Next.next ≡ decisions_done p 0 = same_granted c.in-Next.ensures.answer ∙ ap turned first in

@@ -18,5 +18,5 @@ only_unnamed u Express e = absurd (omega (arith, u.unnamed))
 only_unnamed u Chilled e = absurd (omega (arith, u.unnamed))
 only_unnamed u (Unnamed v) e = ap Unnamed (same_unnamed v u e)
 
-pub returns-in-default : goal.returns-in-default
-returns-in-default c = record { value = refl; only = λ k e. only_unnamed _ k e }
+pub returns-in_default : goal.returns-in_default
+returns-in_default c = record { value = refl; only = λ k e. only_unnamed _ k e }

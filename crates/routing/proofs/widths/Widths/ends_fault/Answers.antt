@@ -1,4 +1,4 @@
-use Rattle.std.proofs.Common.{◌≡◌, suc, ◌<◌, true, false, not, length, sym, ap, ◌∙◌, arith}
+use Rattle.std.proofs.Common.{◌≡◌, suc, true, false, not, length, sym, ap, ◌∙◌, arith}
 use Rattle.routing.specs.Fields.{widths_of}
 use Rattle.routing.specs.Lawful.{ends_bad, fits}
 use Rattle.routing.specs.Space.{at}

@@ -64,7 +64,7 @@ loop-at-preserved c = (
   λ t K.
       let W = c.loop-at.invariant.0 t K in
       let F = see_branch _ _ _ _ W c.requires.1.0 c.loop-at-test.true c.branch-b.ensures in
-      pass W F _ (over_is c.args.low c.args.high c.loop-at.want W F _ c.max-want.ensures (c.in-default.ensures F.rest (rest_stands W F) F.Rest-from)),
+      pass W F _ (over_is c.args.low c.args.high c.loop-at.want W F _ c.max-want.ensures (c.in_default.ensures F.rest (rest_stands W F) F.Rest-from)),
   omega (arith, c.max-want.ensures, c.if-high-b.false, c.loop-at.invariant.1),
 )
 
