@@ -1,4 +1,4 @@
 pub mod Bytes
 pub mod Classes
 pub mod Kinds
-pub mod HandlingKindLemmas
+pub mod Laws

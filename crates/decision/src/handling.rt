@@ -1,10 +1,8 @@
 // The decision that is a handling: a queue with a service class, a keep time and a note.
-ghost use Rattle.std.specs.Prelude.{◌≡◌, ℕ, ◌<◌, slice_index};
+ghost use Rattle.std.specs.Prelude.{◌≡◌};
 ghost use Rattle.decision.specs.Classes.{class_code};
 ghost use Rattle.decision.specs.Kinds.{same_handling, handling_bytes, handling_of};
-ghost use Rattle.routing.proofs.Cells.{cells_6};
-ghost use Rattle.decision.specs.HandlingKindLemmas.{halves};
-ghost use Rattle.std.proofs.Common.{rules};
+ghost use Rattle.decision.specs.Laws.{handling_equivalence, handling_small, handling_sized, handling_again};
 
 use crate::bytes::{byte_at, put_front};
 use crate::class::Class;
@@ -55,18 +53,13 @@ impl Kind for Handling {
 
     ghost reading = { handling_of };
 
-    ghost equivalence = { Prim.search rules };
+    ghost equivalence = { handling_equivalence };
 
-    ghost small = { Prim.search rules };
+    ghost small = { handling_small };
 
-    ghost sized = { Prim.search rules };
+    ghost sized = { handling_sized };
 
-    ghost again = { λ bs long byte.
-        cells_6 (λ xs. ((i : ℕ) → slice_index xs i < 256) → handling_bytes (handling_of xs) ≡ xs)
-        (λ a b c d e f h. let k = halves c d (h 3) in let n = halves e f (h 5) in rw (k.0, k.1, n.0, n.1))
-        bs
-        long
-        byte };
+    ghost again = { handling_again };
 
     fn same(self, other: Handling) -> bool {
         self.queue == other.queue && self.class == other.class

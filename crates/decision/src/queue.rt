@@ -1,8 +1,6 @@
 // The decision that is a queue.
 ghost use Rattle.decision.specs.Kinds.{same_queue, queue_bytes, queue_of};
-ghost use Rattle.std.specs.Prelude.{◌≡◌, refl};
-ghost use Rattle.routing.proofs.Cells.{cells_1};
-ghost use Rattle.std.proofs.Common.{rules};
+ghost use Rattle.decision.specs.Laws.{queue_equivalence, queue_small, queue_sized, queue_again};
 
 use crate::bytes::{byte_at, put_front};
 use crate::kind::Kind;
@@ -28,13 +26,13 @@ impl Kind for Queue {
 
     ghost reading = { queue_of };
 
-    ghost equivalence = { Prim.search rules };
+    ghost equivalence = { queue_equivalence };
 
-    ghost small = { Prim.search rules };
+    ghost small = { queue_small };
 
-    ghost sized = { Prim.search rules };
+    ghost sized = { queue_sized };
 
-    ghost again = { λ bs long byte. cells_1 (λ xs. queue_bytes (queue_of xs) ≡ xs) (λ a. refl) bs long };
+    ghost again = { queue_again };
 
     fn same(self, other: Queue) -> bool {
         self.queue == other.queue

@@ -50,7 +50,7 @@ impl<'a, K: Kind> Rules<K> for TableFile<'a, K> {
 
 fn count_of<K: Kind>(bytes: &[u8]) -> usize
     ensures of_rows { result ≡ length (rows_of bytes.now) }
-    ensures of_decisions { result ≡ length (decisions_of reading size bytes.now) }
+    ensures of_decisions { result ≡ length (decisions_of K.reading K.size bytes.now) }
 {
     two_at(bytes, 4) as usize
 }
@@ -66,7 +66,7 @@ fn row_of(bytes: &[u8], rule: usize) -> [Ends; 8]
 }
 
 fn decision_of<K: Kind>(bytes: &[u8], rule: usize) -> Option<K>
-    ensures { result ≡ slice_get (decisions_of reading size bytes.now) rule }
+    ensures { result ≡ slice_get (decisions_of K.reading K.size bytes.now) rule }
 {
     let d = byte_at(bytes, 1) as usize;
     let n = two_at(bytes, 4) as usize;

@@ -70,9 +70,9 @@ pub fn put_front(out: &mut [u8], widths: &[u8], rules: u16, code: u8)
 }
 
 pub fn put_decision<K: Kind>(out: &mut [u8], at: usize, decision: K)
-    requires { at + size ≤ length out.old }
-    ensures after { out.new ≡ put at (written decision) out.old }
-    ensures kept { reading (written decision) ≡ decision }
+    requires { at + K.size ≤ length out.old }
+    ensures after { out.new ≡ put at (K.written decision) out.old }
+    ensures kept { K.reading (K.written decision) ≡ decision }
 {
     let to = at + K::decision_size();
     decision.write(&mut out[at..to]);

@@ -114,12 +114,12 @@ pub fn write_table<K: Kind, R: Rules<K>>(
 
 // Writes an accepted file again: only room can lack.
 fn rewrite_file<K: Kind>(file: TableFile<'_, K>, out: &mut [u8]) -> Result<usize, WriteFault>
-    requires lawful { file_refusal file.bytes.now code size ≡ None }
+    requires lawful { file_refusal file.bytes.now K.code K.size ≡ None }
     requires bytes { (k : ℕ) → slice_index file.bytes.now k < 256 }
     ensures answer { MatchResult result
-        (λ n. (rewrite_refusal file.entry.bytes.now code size (length out.old) ≡ None) × (n ≡ length file.entry.bytes.now))
-        (λ e. rewrite_refusal file.entry.bytes.now code size (length out.old) ≡ Some (told_by WriterLayer (write_reason e))) }
-    ensures after { out.new ≡ changed (rewrite_refusal file.entry.bytes.now code size (length out.old)) out.old (put 0 file.entry.bytes.now out.old) }
+        (λ n. (rewrite_refusal file.entry.bytes.now K.code K.size (length out.old) ≡ None) × (n ≡ length file.entry.bytes.now))
+        (λ e. rewrite_refusal file.entry.bytes.now K.code K.size (length out.old) ≡ Some (told_by WriterLayer (write_reason e))) }
+    ensures after { out.new ≡ changed (rewrite_refusal file.entry.bytes.now K.code K.size (length out.old)) out.old (put 0 file.entry.bytes.now out.old) }
 {
     write_table(file.widths(), &file, out)
 }
@@ -128,9 +128,9 @@ fn rewrite_file<K: Kind>(file: TableFile<'_, K>, out: &mut [u8]) -> Result<usize
 // refused as the reader refuses it, or else only for lack of room, with the bytes needed and nothing written.
 pub fn rewrite<K: Kind>(bytes: &[u8], out: &mut [u8]) -> Result<usize, RewriteFault>
     ensures answer { MatchResult result
-        (λ n. (rewrite_refusal bytes.now code size (length out.old) ≡ None) × (n ≡ length bytes.now))
-        (λ e. rewrite_refusal bytes.now code size (length out.old) ≡ Some (rewrite_told e)) }
-    ensures after { out.new ≡ changed (rewrite_refusal bytes.now code size (length out.old)) out.old (put 0 bytes.now out.old) }
+        (λ n. (rewrite_refusal bytes.now K.code K.size (length out.old) ≡ None) × (n ≡ length bytes.now))
+        (λ e. rewrite_refusal bytes.now K.code K.size (length out.old) ≡ Some (rewrite_told e)) }
+    ensures after { out.new ≡ changed (rewrite_refusal bytes.now K.code K.size (length out.old)) out.old (put 0 bytes.now out.old) }
 {
     let file = TableFile::<K>::open(bytes)?;
     let length = rewrite_file(file, out)?;

@@ -29,8 +29,8 @@ impl Plan {
         room: usize,
     ) -> Result<Plan, WriteFault>
         ensures { MatchResult result
-            (λ p. (start_refusal widths.now rules size room ≡ None) × Planned widths.now rules code size p)
-            (λ e. start_refusal widths.now rules size room ≡ Some (write_reason e)) }
+            (λ p. (start_refusal widths.now rules K.size room ≡ None) × Planned widths.now rules K.code K.size p)
+            (λ e. start_refusal widths.now rules K.size room ≡ Some (write_reason e)) }
     {
         let tested = Widths::test(widths)?;
         if rules > 512 {
@@ -76,7 +76,7 @@ impl Plan {
 impl RowStage {
     // What a start would refuse with a buffer of so many bytes. Nothing is written.
     pub fn start_fault<K: Kind>(widths: &[u8], rules: usize, room: usize) -> Option<WriteFault>
-        ensures { option_map write_reason result ≡ start_refusal widths.now rules size room }
+        ensures { option_map write_reason result ≡ start_refusal widths.now rules K.size room }
     {
         match Plan::test::<K>(widths, rules, room) {
             Ok(_) => None,
@@ -91,10 +91,10 @@ impl RowStage {
         out: &mut [u8],
     ) -> Result<RowStage, WriteFault>
         ensures answer { MatchResult result
-            (λ s. (start_refusal widths.now rules size (length out.old) ≡ None) × Begun widths.now rules code size s)
-            (λ e. start_refusal widths.now rules size (length out.old) ≡ Some (write_reason e)) }
-        ensures after { out.new ≡ changed (start_refusal widths.now rules size (length out.old)) out.old
-            (put 0 (head_bytes (length widths.now) rules code ++ widths.now) out.old) }
+            (λ s. (start_refusal widths.now rules K.size (length out.old) ≡ None) × Begun widths.now rules K.code K.size s)
+            (λ e. start_refusal widths.now rules K.size (length out.old) ≡ Some (write_reason e)) }
+        ensures after { out.new ≡ changed (start_refusal widths.now rules K.size (length out.old)) out.old
+            (put 0 (head_bytes (length widths.now) rules K.code ++ widths.now) out.old) }
     {
         let plan = Plan::test::<K>(widths, rules, out.len())?;
         Ok(plan.start(widths, out))
@@ -149,10 +149,10 @@ impl RowStage {
 impl DecisionStage {
     // Writes the next decision.
     pub fn decision<K: Kind>(self, out: &mut [u8], decision: K) -> DecisionStep
-        ensures answer { decision_told result ≡ judged (decision_refusal self code size (length out.old)) self (decision_next self) }
-        ensures after { out.new ≡ changed (decision_refusal self code size (length out.old)) out.old
-            (put (decision_place self) (written decision) out.old) }
-        ensures kept { decision_refusal self code size (length out.old) ≡ None → reading (written decision) ≡ decision }
+        ensures answer { decision_told result ≡ judged (decision_refusal self K.code K.size (length out.old)) self (decision_next self) }
+        ensures after { out.new ≡ changed (decision_refusal self K.code K.size (length out.old)) out.old
+            (put (decision_place self) (K.written decision) out.old) }
+        ensures kept { decision_refusal self K.code K.size (length out.old) ≡ None → K.reading (K.written decision) ≡ decision }
     {
         let needed = self.plan.length();
         if out.len() < needed {

@@ -1,12 +1,12 @@
-use Rattle.std.proofs.Common.{◌≡◌, ◌+◌, ◌*◌, min, Bool, ltb, ap, ◌∙◌, arith}
+use Rattle.std.proofs.Common.{◌+◌, ◌*◌, ap, ◌∙◌, arith}
 use Rattle.std.proofs.lemmas.Nat.{mul-le}
 use Rattle.std.proofs.lemmas.Bool.Decides.{nat_tests}
-use Rattle.file.specs.Layout.{row_of, fields, pair, eight}
+use Rattle.file.specs.Layout.{row_of, pair, eight}
 use Rattle.file.proofs.Rows.{given_all}
 use Rattle.file.proofs.checks.row_at.Goals as goal
 
-pub pair-at-requires : goal.pair-at-requires
-pair-at-requires c = (omega arith, omega (arith, mul-le c.args.rule c.args.d 65535 255 (omega arith) (omega arith)))
+pub pair_at-requires : goal.pair_at-requires
+pair_at-requires c = (omega arith, omega (arith, mul-le c.args.rule c.args.d 65535 255 (omega arith) (omega arith)))
 
 pub returns : goal.returns
 unfolding row_of

@@ -6,4 +6,4 @@ use Rattle.file.proofs.rules.count_in.Goals as goal
 pub returns : goal.returns
 returns g c =
     let rs = c.args.rules.now in
-    record { of-rows = sym (length-map rs row_of_rule); of-decisions = sym (length-map rs decision_of_rule) }
+    record { of_rows = sym (length-map rs row_of_rule); of_decisions = sym (length-map rs decision_of_rule) }

@@ -6,4 +6,4 @@ use Rattle.file.proofs.rules.count_of.Goals as goal
 pub returns : goal.returns
 returns g c =
     let n = rules c.args.bytes.now in
-    record { of-rows = c.two-at.ensures ∙ sym (length-map-range_with_len _ 0 n); of-decisions = c.two-at.ensures ∙ sym (length-map-range_with_len _ 0 n) }
+    record { of_rows = c.two_at.ensures ∙ sym (length-map-range_with_len _ 0 n); of_decisions = c.two_at.ensures ∙ sym (length-map-range_with_len _ 0 n) }

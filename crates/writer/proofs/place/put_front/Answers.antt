@@ -8,6 +8,6 @@ returns c =
     let ws = c.args.widths.now in
     let out = c.args.out.now in
     let front = head_bytes (length ws) c.args.rules c.args.code in
-    c.put-bytes-2.ensures
-    ∙ ap (put 16 ws) (c.put-bytes.ensures ∙ ap (λ bs. put 0 bs out) c.head.ensures)
+    c.put_bytes-2.ensures
+    ∙ ap (put 16 ws) (c.put_bytes.ensures ∙ ap (λ bs. put 0 bs out) c.head.ensures)
     ∙ put_put 0 16 front ws out refl (omega arith)

@@ -14,7 +14,7 @@ loop-k-preserved c =
     let at = c.args.at in
     let out = c.args.out.now in
     let one = ends_bytes (get_or es k no_ends) in
-    c.put-ends.ensures
+    c.put_ends.ensures
     ∙ ap (put (at + 8 * k) one) c.loop-k.invariant
     ∙ put_put at (at + 8 * k) (row_bytes k es) one out (omega (arith, row_length k es (omega arith))) (omega arith)
     ∙ ap (λ b. put at b out) (row_more k es (omega arith))

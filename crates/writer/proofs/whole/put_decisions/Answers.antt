@@ -18,14 +18,14 @@ loop-rule-init g c =
 -- each rule below the count has a decision
 pub returns-in_default : goal.returns-in_default
 returns-in_default g c =
-    nth_there (g.R.Rules.decisions c.args.rules.now) c.loop-rule.rule (omega (arith, c.count-rule-end.ensures.of-decisions)) c.in_default.ensures
+    nth_there (g.R.Rules.decisions c.args.rules.now) c.loop-rule.rule (omega (arith, c.count-rule-end.ensures.of_decisions)) c.in_default.ensures
 
 pub returns-in-Refused : goal.returns-in-Refused
 returns-in-Refused g c =
     let p = c.args.start.plan in
     let room : plan_length p ≤ length c.loop-rule.out = omega (arith, c.requires.room, c.loop-rule.auto.out) in
     let step =
-    decision_stepped p c.loop-rule.rule c.loop-rule.stage g.K.Kind.code g.K.Kind.size (g.K.Kind.written c.in-Some.decision) c.loop-rule.out c.decision-in-loop-rule.new.out (refused c.in-Refused.back (write_reason c.in-Refused.fault)) c.loop-rule.invariant.0 room (omega (arith, c.count-rule-end.ensures.of-decisions, c.requires.counted)) (sym c.requires.kind.0) (sym c.requires.kind.1)
+    decision_stepped p c.loop-rule.rule c.loop-rule.stage g.K.Kind.code g.K.Kind.size (g.K.Kind.written c.in-Some.decision) c.loop-rule.out c.decision_in-loop-rule.new.out (refused c.in-Refused.back (write_reason c.in-Refused.fault)) c.loop-rule.invariant.0 room (omega (arith, c.count-rule-end.ensures.of_decisions, c.requires.counted)) (sym c.requires.kind.0) (sym c.requires.kind.1)
     c.in-Refused.ensures.answer
     c.in-Refused.ensures.after
     in
@@ -38,10 +38,10 @@ loop-rule-preserved g c =
     let written = g.K.Kind.written in
     let x = c.in-Some.decision in
     let k = c.loop-rule.rule in
-    let below : k < length ds = omega (arith, c.count-rule-end.ensures.of-decisions) in
+    let below : k < length ds = omega (arith, c.count-rule-end.ensures.of_decisions) in
     let room : plan_length p ≤ length c.loop-rule.out = omega (arith, c.requires.room, c.loop-rule.auto.out) in
     let step =
-    decision_stepped p k c.loop-rule.stage g.K.Kind.code g.K.Kind.size (written x) c.loop-rule.out c.decision-in-loop-rule.new.out (granted c.in-Next.next) c.loop-rule.invariant.0 room (omega (arith, c.requires.counted)) (sym c.requires.kind.0) (sym c.requires.kind.1)
+    decision_stepped p k c.loop-rule.stage g.K.Kind.code g.K.Kind.size (written x) c.loop-rule.out c.decision_in-loop-rule.new.out (granted c.in-Next.next) c.loop-rule.invariant.0 room (omega (arith, c.requires.counted)) (sym c.requires.kind.0) (sym c.requires.kind.1)
     c.in-Next.ensures.answer
     c.in-Next.ensures.after
     in
@@ -64,7 +64,7 @@ returns g c =
     let p = c.args.start.plan in
     let ds = g.R.Rules.decisions c.args.rules.now in
     let k = c.loop-rule.rule in
-    let all : length ds ≤ k = omega (arith, c.count-rule-end.ensures.of-decisions, c.loop-rule-test.false) in
+    let all : length ds ≤ k = omega (arith, c.count-rule-end.ensures.of_decisions, c.loop-rule-test.false) in
     record {
       answer =
           c.end.ensures

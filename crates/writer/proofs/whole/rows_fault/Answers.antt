@@ -12,7 +12,7 @@ returns-in-Some g c =
     let k = c.loop-rule.rule in
     let here : ends_refusal ws (get_or rows k blank) ≡ Some c.in-Some.field = ap (ends_refusal ws) (sym c.row.ensures) ∙ sym c.in-Some.ensures in
     record {
-      value = sym (some_hit (λ r. ends_refusal ws (get_or rows r blank)) (length rows) k c.in-Some.field (omega (arith, c.count-rule-end.ensures.of-rows)) c.loop-rule.invariant.0 here);
+      value = sym (some_hit (λ r. ends_refusal ws (get_or rows r blank)) (length rows) k c.in-Some.field (omega (arith, c.count-rule-end.ensures.of_rows)) c.loop-rule.invariant.0 here);
       eights = λ e. let z : ◌≡◌ {A = ℕ} 0 1 = cc in absurd (omega arith);
     }
 

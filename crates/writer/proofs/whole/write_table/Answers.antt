@@ -10,18 +10,18 @@ use Rattle.writer.proofs.Steps.{same_granted, planned_length, decisions_done, st
 use Rattle.writer.proofs.Back.{reads_back, table_put}
 use Rattle.writer.proofs.whole.write_table.Goals as goal
 
-pub put-rows-requires : goal.put-rows-requires
-put-rows-requires g c =
+pub put_rows-requires : goal.put_rows-requires
+put_rows-requires g c =
     let ws = c.args.widths.now in
     let rows = g.R.Rules.rows c.args.rules.now in
-    let p = c.in-ok-plan.plan in
-    let planned = c.in-ok-plan.ensures.1 in
-    let room = (start_settled ws c.count.result g.K.Kind.size (length c.args.out.now) c.in-ok-plan.ensures.0).2 in
+    let p = c.in_ok-plan.plan in
+    let planned = c.in_ok-plan.ensures.1 in
+    let room = (start_settled ws c.count.result g.K.Kind.size (length c.args.out.now) c.in_ok-plan.ensures.0).2 in
     let same = c.start-stage.ensures.answer in
     let none : rows_refusal (widths_of p.widths) rows ≡ None = sym c.in_default.ensures.value in
     record {
       begun = ap (λ s. s.done) same;
-      counted = ap (λ s. s.plan.rules) same ∙ planned.of_rules ∙ c.count.ensures.of-rows;
+      counted = ap (λ s. s.plan.rules) same ∙ planned.of_rules ∙ c.count.ensures.of_rows;
       room = rw same (omega (arith, planned_length ws _ _ _ p planned, c.start-stage.auto.out));
       lawful = λ k h. rw same (some_none (λ r. ends_refusal (widths_of p.widths) (get_or rows r blank)) (length rows) k h none);
     }
@@ -34,19 +34,19 @@ returns-in-Done g c =
     let size = g.K.Kind.size in
     let code = g.K.Kind.code in
     let out = c.args.out.now in
-    let p = c.in-ok-plan.plan in
-    let n = c.count.ensures.of-rows in
-    let planned = c.in-ok-plan.ensures.1 in
+    let p = c.in_ok-plan.plan in
+    let n = c.count.ensures.of_rows in
+    let planned = c.in_ok-plan.ensures.1 in
     let l : Planned ws (length rows) code size p =
     record { of_widths = planned.of_widths; of_rules = planned.of_rules ∙ n; of_code = planned.of_code; of_size = planned.of_size }
     in
-    let begun : start_refusal ws (length rows) size (length out) ≡ None = ap (λ m. start_refusal ws m size (length out)) (sym n) ∙ c.in-ok-plan.ensures.0 in
+    let begun : start_refusal ws (length rows) size (length out) ≡ None = ap (λ m. start_refusal ws m size (length out)) (sym n) ∙ c.in_ok-plan.ensures.0 in
     let s = start_settled ws (length rows) size (length out) begun in
     let none : rows_refusal ws rows ≡ None = ap (λ vs. rows_refusal vs rows) (sym l.of_widths) ∙ sym c.in_default.ensures.value in
     let fine : table_refusal ws rows size (length out) ≡ None = rw (begun, none) in
     let lawful : (k : ℕ) → k < length rows → ends_refusal ws (get_or rows k blank) ≡ None = λ k h. some_none (λ r. ends_refusal ws (get_or rows r blank)) (length rows) k h none in
     let eights = c.in_default.ensures.eights refl in
-    let paired = sym n ∙ c.count.ensures.of-decisions in
+    let paired = sym n ∙ c.count.ensures.of_decisions in
     let first = c.start-stage.ensures.answer in
     let next : c.in-Next.next ≡ decisions_done p 0 = same_granted c.in-Next.ensures.answer ∙ ap turned first in
     record {
