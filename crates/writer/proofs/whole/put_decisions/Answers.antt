@@ -25,7 +25,7 @@ returns-in-Refused g c =
     let p = c.args.start.plan in
     let room : plan_length p ≤ length c.loop-rule.out = omega (arith, c.requires.room, c.loop-rule.auto.out) in
     let step =
-    decision_stepped p c.loop-rule.rule c.loop-rule.stage g.K.Kind.code g.K.Kind.size (g.K.Kind.written c.in-Some.decision) c.loop-rule.out c.decision_in-loop-rule.new.out (refused c.in-Refused.back (write_reason c.in-Refused.fault)) c.loop-rule.invariant.0 room (omega (arith, c.count-rule-end.ensures.of_decisions, c.requires.counted)) (sym c.requires.kind.0) (sym c.requires.kind.1)
+    decision_stepped p c.loop-rule.rule c.loop-rule.stage g.K.Kind.code g.K.Kind.size (g.K.Kind.written c.in-Some.decision) c.loop-rule.out c.decision-in-loop-rule.new.out (refused c.in-Refused.back (write_reason c.in-Refused.fault)) c.loop-rule.invariant.0 room (omega (arith, c.count-rule-end.ensures.of_decisions, c.requires.counted)) (sym c.requires.kind.0) (sym c.requires.kind.1)
     c.in-Refused.ensures.answer
     c.in-Refused.ensures.after
     in
@@ -41,7 +41,7 @@ loop-rule-preserved g c =
     let below : k < length ds = omega (arith, c.count-rule-end.ensures.of_decisions) in
     let room : plan_length p ≤ length c.loop-rule.out = omega (arith, c.requires.room, c.loop-rule.auto.out) in
     let step =
-    decision_stepped p k c.loop-rule.stage g.K.Kind.code g.K.Kind.size (written x) c.loop-rule.out c.decision_in-loop-rule.new.out (granted c.in-Next.next) c.loop-rule.invariant.0 room (omega (arith, c.requires.counted)) (sym c.requires.kind.0) (sym c.requires.kind.1)
+    decision_stepped p k c.loop-rule.stage g.K.Kind.code g.K.Kind.size (written x) c.loop-rule.out c.decision-in-loop-rule.new.out (granted c.in-Next.next) c.loop-rule.invariant.0 room (omega (arith, c.requires.counted)) (sym c.requires.kind.0) (sym c.requires.kind.1)
     c.in-Next.ensures.answer
     c.in-Next.ensures.after
     in

@@ -23,7 +23,7 @@ returns-in-Refused g c =
     ap (ends_refusal (widths_of p.widths)) c.row.ensures ∙ c.requires.lawful k (omega (arith, c.count-rule-end.ensures.of_rows))
     in
     let room : plan_length p ≤ length c.loop-rule.out = omega (arith, c.requires.room, c.loop-rule.auto.out) in
-    let step = row_stepped p k c.loop-rule.stage c.row.result c.loop-rule.out c.row_in-loop-rule.new.out (refused c.in-Refused.back (write_reason c.in-Refused.fault)) c.loop-rule.invariant.0 room (omega (arith, c.count-rule-end.ensures.of_rows, c.requires.counted)) fits c.in-Refused.ensures.answer c.in-Refused.ensures.after in
+    let step = row_stepped p k c.loop-rule.stage c.row.result c.loop-rule.out c.row-in-loop-rule.new.out (refused c.in-Refused.back (write_reason c.in-Refused.fault)) c.loop-rule.invariant.0 room (omega (arith, c.count-rule-end.ensures.of_rows, c.requires.counted)) fits c.in-Refused.ensures.answer c.in-Refused.ensures.after in
     never_both step.0
 
 pub loop-rule-preserved : goal.loop-rule-preserved
@@ -36,7 +36,7 @@ loop-rule-preserved g c =
     let below : k < length rows = omega (arith, c.count-rule-end.ensures.of_rows) in
     let fits : ends_refusal (widths_of p.widths) es ≡ None = ap (ends_refusal (widths_of p.widths)) c.row.ensures ∙ c.requires.lawful k below in
     let room : plan_length p ≤ length c.loop-rule.out = omega (arith, c.requires.room, c.loop-rule.auto.out) in
-    let step = row_stepped p k c.loop-rule.stage es c.loop-rule.out c.row_in-loop-rule.new.out (granted c.in-Next.next) c.loop-rule.invariant.0 room (omega (arith, c.requires.counted)) fits c.in-Next.ensures.answer c.in-Next.ensures.after in
+    let step = row_stepped p k c.loop-rule.stage es c.loop-rule.out c.row-in-loop-rule.new.out (granted c.in-Next.next) c.loop-rule.invariant.0 room (omega (arith, c.requires.counted)) fits c.in-Next.ensures.answer c.in-Next.ensures.after in
     let long : length es ≡ 8 = search rules in
     let more = rows_more p rows es k c.args.out.now (c.row.ensures ∙ get_or_default rows k blank es below) below long (omega (arith, p.widths.tested.1)) c.requires.counted c.requires.room c.loop-rule.invariant.1 in
     (same_granted step.0, more.0, step.1 ∙ ap (put (low_at d (k * d)) (row_bytes d es)) c.loop-rule.invariant.2 ∙ more.1)
