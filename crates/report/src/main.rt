@@ -13,6 +13,7 @@ use routing::refusal::Refusal;
 use std::fmt::Display;
 use std::io;
 use std::io::Read;
+use std::process::ExitCode;
 use writer::whole::rewrite;
 
 // No lawful file is longer than 35,864 bytes.
@@ -116,14 +117,24 @@ fn report<K: Kind + Display>(rt: &HostRuntime, kind: &str, bytes: &[u8]) -> Resu
     }
 }
 
-fn main(rt: HostRuntime) -> Result<(), Fault> {
+// Reads the bytes and reports on the kind of decision that they say.
+fn run(rt: &HostRuntime) -> Result<(), Fault> {
     let mut room = [0u8; MOST];
     let mut stdin = rt.stdin();
     let n = fill(&mut stdin, &mut room)?;
     let bytes = &room[0..n];
     if byte_at(bytes, 2) == 2 {
-        report::<Handling>(&rt, "handlings", bytes)
+        report::<Handling>(rt, "handlings", bytes)
     } else {
-        report::<Queue>(&rt, "queues", bytes)
+        report::<Queue>(rt, "queues", bytes)
+    }
+}
+
+// A refused file ends the program with status 1; what it says of it is printed by then.
+fn main(rt: HostRuntime) -> io::Result<ExitCode> {
+    match run(&rt) {
+        Ok(()) => Ok(ExitCode::SUCCESS),
+        Err(Fault::Refused) => Ok(ExitCode::FAILURE),
+        Err(Fault::Io(error)) => Err(error),
     }
 }
