@@ -35,7 +35,7 @@ copy_branch-push_branch-requires t c =
     omega (arith, K.room, ap (λ t. branches_of (shape t)) F.is, C.change.branches, ap branches_of C.same, C.change.all)
 
 pub copy_branch-returns-then-left-eq0 : goal.copy_branch-returns-then-left-eq0
-copy_branch-returns-then-left-eq0 t c l below rest K =
+copy_branch-returns-then-left-eq0 t c l b rest K =
     let read = at_mark c.args.self.now _ _ _ c.if-left-eq0.true c.mark-m.ensures in (
       none,
       copied_one _ _ _ _ _ _ _ _ _ _ _ _ _ _ K.stands.holds read (copied_none _ _ _ _ _ _ _ _ K.stands.holds read)
