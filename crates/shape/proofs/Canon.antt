@@ -3,7 +3,7 @@ use Rattle.std.proofs.Common.{◌≡◌, ℕ, zero, suc, ◌+◌, ◌-◌, ◌<�
 use Rattle.std.specs.List.{AllByRecursion as All}
 use Rattle.std.proofs.lemmas.List.{append-nil, map_push}
 use Rattle.std.proofs.lemmas.List.Elements.{filter-append}
-use Rattle.std.proofs.ByRecursion.{all_kept_by, All_weaker}
+use Rattle.std.proofs.ByRecursion.{all_kept_by, All-weaker}
 use Rattle.std.proofs.lemmas.Bool.{cond-true, cond-false, cond_both, true≢false}
 use Rattle.std.proofs.lemmas.Bool.Decides.{nat_tests}
 use Rattle.routing.specs.declared.ends.Ends.{Ends}
@@ -72,7 +72,7 @@ Ended m cs r = In (field m r).low cs × In ((field m r).high + 1) cs
 
 -- and still are after one cut more
 ends_put : (m x : ℕ) (cs : List ℕ) (T : List Numbered) → All (Ended m cs) T → All (Ended m (put x cs)) T
-ends_put m x cs T e = All_weaker (Ended m cs) (Ended m (put x cs)) (λ r i. (in_put _ x cs i.0, in_put _ x cs i.1)) T e
+ends_put m x cs T e = All-weaker (Ended m cs) (Ended m (put x cs)) (λ r i. (in_put _ x cs i.0, in_put _ x cs i.1)) T e
 
 -- among the cuts of rules are their ends
 pub ends_cuts : (m : ℕ) (T : List Numbered) → All (Ended m (cuts_of m T)) T
@@ -132,26 +132,26 @@ Apart m a b r = (a < (field m r).low → b ≤ (field m r).low) × (a < (field m
 module _ (m : ℕ) (T : List Numbered) where
   -- the ends are the first cut, or after it
   pub fenced : (a : ℕ) (cs : List ℕ) → All (Ended m (a ∷ cs)) T → All (Fenced m a cs) T
-  fenced a cs e = All_weaker (Ended m (a ∷ cs)) (Fenced m a cs) (λ r i. (first_cut _ a cs i.0, first_cut _ a cs i.1)) T e
+  fenced a cs e = All-weaker (Ended m (a ∷ cs)) (Fenced m a cs) (λ r i. (first_cut _ a cs i.0, first_cut _ a cs i.1)) T e
 
   -- the same after the next cut
   pub fenced_more : (a b : ℕ) (cs : List ℕ) → a < b → All (Fenced m a (b ∷ cs)) T → All (Fenced m b cs) T
   fenced_more a b cs k e =
-      All_weaker (Fenced m a (b ∷ cs)) (Fenced m b cs) (λ r i. (cut_more _ a b cs k i.0, cut_more _ a b cs k i.1)) T e
+      All-weaker (Fenced m a (b ∷ cs)) (Fenced m b cs) (λ r i. (cut_more _ a b cs k i.0, cut_more _ a b cs k i.1)) T e
 
   -- no end lies between two neighbouring cuts
   pub apart : (a b : ℕ) (cs : List ℕ) → Up b (b ∷ cs) → All (Fenced m a (b ∷ cs)) T → All (Apart m a b) T
   apart a b cs u e =
-      All_weaker (Fenced m a (b ∷ cs)) (Apart m a b) (λ r i. (cut_out _ a b cs u i.0, cut_out _ a b cs u i.1)) T e
+      All-weaker (Fenced m a (b ∷ cs)) (Apart m a b) (λ r i. (cut_out _ a b cs u i.0, cut_out _ a b cs u i.1)) T e
 
   -- between two cuts the same rules hold each number
   held_same : (a b x : ℕ) → a ≤ x → x < b → All (Apart m a b) T → held m x T ≡ held m a T
   held_same a b x k l e =
-      kept_same _ _ T (All_weaker (Apart m a b) (λ r. holds (field m r) x ≡ holds (field m r) a) (λ r i. grind (arith, nat_tests)) T e)
+      kept_same _ _ T (All-weaker (Apart m a b) (λ r. holds (field m r) x ≡ holds (field m r) a) (λ r i. grind (arith, nat_tests)) T e)
 
   -- no rule holds x
   none_held : (x : ℕ) (P : Numbered → Type 0) → ((r : Numbered) → P r → holds (field m r) x ≡ false) → All P T → passes m T x ≡ false
-  none_held x P out e = ap some (kept_none _ T (All_weaker P (λ r. holds (field m r) x ≡ false) out T e))
+  none_held x P out e = ap some (kept_none _ T (All-weaker P (λ r. holds (field m r) x ≡ false) out T e))
 
   -- no rule holds what is below the first cut
   pub low : (cs : List ℕ) → All (Ended m cs) T → Low (passes m T) cs
@@ -263,7 +263,7 @@ insert_canon d (suc k) m r T e w ws =
     let l = (field m r).low in
     let h = (field m r).high in
     let f = insert (take k (drop (suc m) (ends r))) (number r) in
-    let sound = All_weaker (Whole d) (Sound_at m) (λ r w. (w m here).1) T ws in
+    let sound = All-weaker (Whole d) (Sound_at m) (λ r w. (w m here).1) T ws in
     ap (λ es. insert (take (suc k) es) (number r) (canon (suc k) m T)) (drop-cons (ends r) m (record { low = 0; high = 0 }) (w m here).0)
     ∙ node m T G l h f (w m here).1 sound (canon_none k (suc m))
     ∙ runs_same (filled (passes m T) l h) (passes m (T ++ r ∷ [])) (deeper (beneath m T G) l h f) (beneath m (T ++ r ∷ []) G)

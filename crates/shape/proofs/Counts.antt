@@ -1,7 +1,7 @@
 -- The branches and marks of the tree that the cuts tell. Assumes nothing.
 use Rattle.std.proofs.Common.{◌≡◌, ℕ, zero, suc, ◌+◌, ◌-◌, ◌<◌, Bool, true, false, cond, ◌&&◌, leb, List, [], ◌∷◌, map, length, filter, sym, refl, ap, ◌∙◌, ap₂, arith}
 use Rattle.std.specs.List.{AllByRecursion as All}
-use Rattle.std.proofs.ByRecursion.{All_weaker}
+use Rattle.std.proofs.ByRecursion.{All-weaker}
 use Rattle.std.proofs.lemmas.Bool.Decides.{nat_tests}
 use Rattle.routing.specs.declared.ends.Ends.{Ends}
 use Rattle.routing.specs.Rules.{holds}
@@ -33,7 +33,7 @@ module _ (m : ℕ) (T : List Numbered) (F : List (List Ends) → ℕ) where
       let lt : a < b = omega arith in
       let all : List Ends → Bool = λ r. leb (at r m).low a && leb b ((at r m).high + 1) in
       let same : held m a T ≡ filter (λ r. all (ends r)) T =
-      kept_same _ _ T (All_weaker (Apart m a b) (λ r. holds (field m r) a ≡ all (ends r)) (λ r i. grind (arith, nat_tests)) T (apart m T a b cs up e)) in
+      kept_same _ _ T (All-weaker (Apart m a b) (λ r. holds (field m r) a ≡ all (ends r)) (λ r i. grind (arith, nat_tests)) T (apart m T a b cs up e)) in
       ap₂ (λ x y. x + y) (ap (λ l. F (map ends l)) same ∙ ap F (kept_map all T)) (over_from b cs up (fenced_more m T a b cs lt e))
 
   -- a sum over runs is the sum over pieces

@@ -1,7 +1,7 @@
 -- What a message reaches. Assumes nothing.
 use Rattle.std.proofs.Common.{◌≡◌, ℕ, zero, suc, ◌+◌, ◌-◌, ◌<◌, ◌≤◌, Bool, true, false, cond, ◌&&◌, leb, List, [], ◌∷◌, map, length, take, drop, Some, None, filter, Option, sym, refl, ap, ◌∙◌, ⊎_elim, arith, drop-cons, MatchOption}
 use Rattle.std.specs.List.{AllByRecursion as All}
-use Rattle.std.proofs.ByRecursion.{All_weaker, all_kept_by}
+use Rattle.std.proofs.ByRecursion.{All-weaker, all_kept_by}
 use Rattle.std.proofs.lemmas.Bool.{cond-true, cond-false, cond_both, cases_lt, true≢false}
 use Rattle.std.proofs.lemmas.Bool.Decides.{nat_tests}
 use Rattle.routing.specs.declared.ends.Ends.{Ends}
@@ -96,7 +96,7 @@ found_canon d (suc k) m (v ∷ vs) T e l w =
     let M = filter (meant k (suc m) vs) H in
     let step : filter (meant (suc k) m (v ∷ vs)) T ≡ M =
     kept_same (meant (suc k) m (v ∷ vs)) (λ r. holds (field m r) v && meant k (suc m) vs r) T
-    (All_weaker (Whole d) _
+    (All-weaker (Whole d) _
     (λ r w. ap (λ es. matches (suc k) es (v ∷ vs)) (drop-cons (ends r) m (record { low = 0; high = 0 }) (w m here).0)) T w)
     ∙ sym (kept_both (λ r. holds (field m r) v) (meant k (suc m) vs) T) in
     let C = cuts_of m T in

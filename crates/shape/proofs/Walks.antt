@@ -2,7 +2,7 @@
 use Rattle.std.proofs.Common.{◌≡◌, ℕ, suc, ◌+◌, ◌<◌, ◌≤◌, true, false, cond, List, [], ◌∷◌, ◌++◌, map, length, Some, None, Option, sym, refl, ap, ◌∙◌, subst, ap₂, inl, inr, arith, MatchOption}
 use Rattle.std.specs.List.{AllZip, AllByRecursion as All}
 use Rattle.std.proofs.lemmas.List.{append_assoc, map-append, length-map, take_all}
-use Rattle.std.proofs.ByRecursion.{All-append, All-map, All_weaker}
+use Rattle.std.proofs.ByRecursion.{All-append, All-map, All-weaker}
 use Rattle.std.proofs.lemmas.Bool.{cond_both, and_parts, and_from, le-leb, leb-true}
 use Rattle.routing.specs.declared.ends.Ends.{Ends}
 use Rattle.routing.specs.Rules.{matches, matching}
@@ -113,8 +113,8 @@ all_seen (e ∷ es) lo (part (piece a b) below rest) t =
     let S = Seen (e ∷ es) lo (part (piece a b) below rest) in
     All-append S _ _
     (below_branch (All S) e es a b below
-    (λ i. All-map S _ _ (All_weaker (Seen es 0 below) _ (λ c s. seen_below e es lo a b below rest t.0 t.1 c i s) _ (all_seen es 0 below t.2))) tt)
-    (All_weaker (Seen (e ∷ es) (b + 1) rest) S (λ c s. seen_rest e es lo a b below rest t.0 t.1 c s) _ (all_seen (e ∷ es) (b + 1) rest t.3))
+    (λ i. All-map S _ _ (All-weaker (Seen es 0 below) _ (λ c s. seen_below e es lo a b below rest t.0 t.1 c i s) _ (all_seen es 0 below t.2))) tt)
+    (All-weaker (Seen (e ∷ es) (b + 1) rest) S (λ c s. seen_rest e es lo a b below rest t.0 t.1 c s) _ (all_seen (e ∷ es) (b + 1) rest t.3))
 
 -- one list of cells after another
 ascending_append :
@@ -126,7 +126,7 @@ ascending_append (x ∷ xs) ys p q r = (All-append _ xs ys p.0 r.0, ascending_ap
 ascending_behind : (e : Ends) (cs : List Cell) → Ascending cs → Ascending (map (behind (e ∷ [])) cs)
 ascending_behind e [] p = tt
 ascending_behind e (c ∷ cs) p =
-    (All-map _ (behind (e ∷ [])) cs (All_weaker _ _ (λ x b. inr (refl, b)) cs p.0), ascending_behind e cs p.1)
+    (All-map _ (behind (e ∷ [])) cs (All-weaker _ _ (λ x b. inr (refl, b)) cs p.0), ascending_behind e cs p.1)
 
 -- a lower first number
 before_from : (a lo : ℕ) (vs : List ℕ) (es : List Ends) → a < lo → From lo es → 0 < length es → Before (a ∷ vs) (map (λ e. e.low) es)
@@ -146,8 +146,8 @@ ascends (e ∷ es) lo (part (piece a b) below rest) t =
     (below_branch Ascending e es a b below (λ _. ascending_behind (box_of (piece a b)) (cells es [] below) (ascends es 0 below t.2)) tt)
     (ascends (e ∷ es) (b + 1) rest t.3)
     (below_branch (All P) e es a b below
-    (λ _. All-map P _ _ (All_weaker (Seen es 0 below) _
-    (λ c _. All_weaker (Seen (e ∷ es) (b + 1) rest) _ (λ y s. before_from a (b + 1) (corner c) y.box (omega arith) s.from (omega (arith, s.long))) Y (all_seen (e ∷ es) (b + 1) rest t.3))
+    (λ _. All-map P _ _ (All-weaker (Seen es 0 below) _
+    (λ c _. All-weaker (Seen (e ∷ es) (b + 1) rest) _ (λ y s. before_from a (b + 1) (corner c) y.box (omega arith) s.from (omega (arith, s.long))) Y (all_seen (e ∷ es) (b + 1) rest t.3))
     _ (all_seen es 0 below t.2))) tt)
 
 -- the smallest message of a cell lies in it
@@ -193,4 +193,4 @@ cells_right d [] ge ok (f ∷ es) e = (tt, tt)
 cells_right d (r ∷ T) ge ok es e =
     let G = grown d (r ∷ T) in
     let tidy : Tidy (length es) 0 G = rw e (order_kept d (r ∷ T) ok) in
-    (All_weaker (Seen es 0 G) (Right d (r ∷ T) es) (right d r T ok es e) _ (all_seen es 0 G tidy), ascends es 0 G tidy)
+    (All-weaker (Seen es 0 G) (Right d (r ∷ T) es) (right d r T ok es e) _ (all_seen es 0 G tidy), ascends es 0 G tidy)

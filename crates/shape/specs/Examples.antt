@@ -1,5 +1,5 @@
 -- Worked trees that compute from the definitions. Assumes nothing.
-use Rattle.std.specs.Prelude.{◌≡◌, ℕ, List, [], ◌∷◌, Some, None}
+use Rattle.std.specs.Prelude.{◌≡◌, [], ◌∷◌, Some, None}
 use Rattle.std.specs.Option.{option_map}
 use Rattle.routing.specs.Examples.{run, intervals, four, two}
 use Rattle.shape.specs.Shapes.{piece, rule, bare, part, branches_of, marks_of, grown}

@@ -38,12 +38,12 @@ pub last_mark :
     → (t' : Records) × Became s₀ s₃ 0 t (add_mark i (shape t)) first t'
 last_mark {s₀} {first} {i} {t} {s} {at} {n} {bel} {next} {l} s₂ s₃ new W F e low P Q =
     let S = stands W F in
-    let z : F.rest ≡ none = empty s 0 F.rest S.holds.3 (F.Rest-from ∙ e) in
+    let z : F.rest ≡ none = empty s 0 F.rest S.holds.3 (F.rest_from ∙ e) in
     let p = place 0 at in
     let was : look s₂ p ≡ rec l (root F.below) (root F.rest) =
     P.keeps p (omega (arith, S.own p, one_self p, P.alive p, live_most s₂ p)) ∙ S.holds.1 in
     ended W F s₃ _ _ (ap (λ r. part l (shape F.below) (add_mark i (shape r))) z ∙ ap (λ r. part l (shape F.below) (part (rule i) bare (shape r))) (sym z))
     (inserted s s s₂ s₃ 0 at new 0xffff_ffff l l (rule i) F.below F.rest none S (unchanged s _ none tt) refl low
-    (subst (λ x. Pushed s s₂ (place 0 new) (rec (rule i) 0xffff_ffff x)) (sym (F.Rest-from ∙ e)) P)
+    (subst (λ x. Pushed s s₂ (place 0 new) (rec (rule i) 0xffff_ffff x)) (sym (F.rest_from ∙ e)) P)
     (subst (λ x. Written s₂ s₃ p (with_next x new)) was Q)
     refl refl)

@@ -172,7 +172,7 @@ module _
         fits =
             record {
               stands = record { holds = C.holds.3; own = λ k. omega (arith, own k) };
-              from = F.Rest-from;
+              from = F.rest_from;
               steps = omega (arith, fits.steps, C.branches, C.marks);
               room = omega (arith, fits.room, ap branches_of e, C.branches, C.all);
               room_marks = omega (arith, fits.room_marks, ap marks_of e, C.marks, C.all_marks);
@@ -180,7 +180,7 @@ module _
         turns = omega (arith, W.turns, ap (λ r. siblings (shape r)) F.is);
         finish =
             λ s' r' B.
-            let A = followed s₁ s' d at l' b' F.rest r' _ next (record { holds = C.holds; own = own }) F.Rest-from B in
+            let A = followed s₁ s' d at l' b' F.rest r' _ next (record { holds = C.holds; own = own }) F.rest_from B in
             ended s' (item at l' b' r') _ e
             (record { change = then s s₁ s' d _ _ _ C A.change; same = A.same; from = refl });
       }
@@ -198,7 +198,7 @@ module _
       λ s a r H e le. ap (chain n s d) (sym e) ∙ chain_is s d r n H le in
       let fewer = ap (λ r. siblings (shape r)) F.is in
       omega
-      (arith, fewer, steps s₁ next F.rest H F.Rest-from (omega (arith, W.turns)), steps s at W.rest W.fits.stands.holds W.fits.from W.turns)
+      (arith, fewer, steps s₁ next F.rest H F.rest_from (omega (arith, W.turns)), steps s at W.rest W.fits.stands.holds W.fits.from W.turns)
 
 -- nothing is left
 pub done :

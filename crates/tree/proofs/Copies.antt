@@ -1,6 +1,6 @@
 -- The loop of copy_node. Assumes nothing.
 use Rattle.std.proofs.Common.{◌≡◌, ℕ, ◌+◌, ◌-◌, ◌<◌, ◌≤◌, sym, refl, ap, ◌∙◌, subst, arith}
-use Rattle.shape.specs.Shapes.{Label, branches_of, marks_of, siblings, ready}
+use Rattle.shape.specs.Shapes.{Label, branches_of, marks_of, siblings}
 use Rattle.tree.specs.Memory.{one, Rec, rec, next_of, with_next, mark_place, live, look, Written, Pushed}
 use Rattle.tree.specs.Links.{Records, none, item, shape, root, place, Holds, count, Changed, Copiable, Copied, CopiedOne, chain}
 use Rattle.tree.specs.declared.records.Store.{Store}
@@ -50,7 +50,7 @@ pub found_copiable :
 found_copiable s d at m bel next t K F =
     let J = subst (Copiable s d at) F.is K in
     below_copiable s d at m m bel next F.below F.rest J
-    (J.stands.holds.1 ∙ ap (λ b. rec m b (root F.rest)) F.below_from ∙ ap (rec m bel) F.Rest-from)
+    (J.stands.holds.1 ∙ ap (λ b. rec m b (root F.rest)) F.below_from ∙ ap (rec m bel) F.rest_from)
 
 -- a new record over the copy of what is below it
 pub copied_one :

@@ -54,6 +54,6 @@ module _
       let sh : Shape → Shape = λ b. part (piece low (x - 1)) (shape F.below) (part (piece x high) b (shape F.rest)) in
       ended W F s₃ _ _ (e ∙ ap sh (sym C.same))
       (inserted s s₁ s₂ s₃ d at new bel₂ _ _ _ F.below F.rest u (stands W F) C.change C.from small
-      (subst (λ i. Pushed s₁ s₂ (place d new) (rec (piece x high) bel₂ i)) (sym F.Rest-from) P)
+      (subst (λ i. Pushed s₁ s₂ (place d new) (rec (piece x high) bel₂ i)) (sym F.rest_from) P)
       (subst (λ i. Written s₂ s₃ (place d at) (rec (piece low (x - 1)) i new)) (sym F.below_from) Q)
       refl refl)

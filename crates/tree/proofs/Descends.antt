@@ -124,7 +124,7 @@ module _
         (s₁ s₂ : Store) (bel' : ℕ) (b' : Records) (B : Became s s₁ (d - 1) F.below (insert fs i (shape F.below)) bel' b')
         (Q : Written s₁ s₂ (place d at) (rec (piece a b) bel' next)) where
       pub turn_change : Changed s s₂ d (item at (piece a b) F.below F.rest) (item at (piece a b) b' F.rest)
-      turn_change = relinked s s₁ s₂ d at (piece a b) F.below F.rest b' _ bel' next (stands W F) B F.Rest-from Q
+      turn_change = relinked s s₁ s₂ d at (piece a b) F.below F.rest b' _ bel' next (stands W F) B F.rest_from Q
 
       pub turned : Walk s₀ d first (under low high (insert fs i)) t s₂ next n (under low high (insert fs i))
       turned =

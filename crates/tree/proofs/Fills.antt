@@ -93,7 +93,7 @@ module _
         fits =
             record {
               stands = record { holds = C.holds.3.3; own = λ k. omega (arith, own k) };
-              from = F.Rest-from;
+              from = F.rest_from;
               steps = omega (arith, K.steps, C.branches, C.marks);
               room = omega (arith, K.room, ap branches_of e, C.branches, C.all);
               room_marks = omega (arith, K.room_marks, ap marks_of e, C.marks, C.all_marks);
@@ -101,7 +101,7 @@ module _
         turns = omega (arith, W.turns, ap (λ r. siblings (shape r)) F.is);
         finish =
             λ s' r' B.
-            let A = followed s₁ s' d new m none F.rest r' _ next (record { holds = C.holds.3; own = λ k. omega (arith, own k) }) F.Rest-from B in
+            let A = followed s₁ s' d new m none F.rest r' _ next (record { holds = C.holds.3; own = λ k. omega (arith, own k) }) F.rest_from B in
             let D = followed s₁ s' d at l F.below _ _ _ new (record { holds = C.holds; own = own }) refl A in
             ended W F s' _ _ e (record { change = then s s₁ s' d _ _ _ C D.change; same = D.same; from = refl });
       }
@@ -139,7 +139,7 @@ module _
       gap_change s₁ s₂ new pos read N =
           let ne : d ≡ 0 → ⊥ = λ z. omega arith in
           (inserted s s s₁ s₂ d at new 0xffff_ffff _ _ _ F.below F.rest none (stands W F) (unchanged s _ none tt) refl N.small
-          (subst (λ i. Pushed s s₁ (place d new) (rec (piece w' to) 0xffff_ffff i)) (ap next_of read ∙ sym F.Rest-from) (new_branch s s₁ d new _ ne N.pushed))
+          (subst (λ i. Pushed s s₁ (place d new) (rec (piece w' to) 0xffff_ffff i)) (ap next_of read ∙ sym F.rest_from) (new_branch s s₁ d new _ ne N.pushed))
           (subst (λ i. Written s₁ s₂ (place d at) (rec (piece a b) i new)) (sym F.below_from) (written_branch s₁ s₂ d at _ ne (subst (λ x. Written s₁ s₂ at (with_next x new)) read N.written)))
           refl refl).change
 

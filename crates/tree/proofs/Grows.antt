@@ -1,7 +1,6 @@
 -- Shapes that take no less room. Assumes nothing.
 use Rattle.std.proofs.Common.{◌≤◌, arith}
 use Rattle.shape.specs.Shapes.{Label, Shape, part, branches_of, marks_of}
-use Rattle.routing.specs.Space.{branches, marks}
 
 -- A shape that takes no less room.
 pub record Grows (a b : Shape) : Type 0 where

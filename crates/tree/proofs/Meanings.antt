@@ -1,6 +1,6 @@
 -- One rule more in a tree that means some rules. Assumes nothing.
 use Rattle.std.proofs.Common.{◌≡◌, ℕ, ◌+◌, ◌<◌, ◌≤◌, min, List, [], ◌∷◌, ◌++◌, length, take, Some, None, sym, ap, ◌∙◌, ap₂, arith}
-use Rattle.std.proofs.ByRecursion.{All-push, All_weaker}
+use Rattle.std.proofs.ByRecursion.{All-push, All-weaker}
 use Rattle.std.specs.List.{AllByRecursion as All}
 use Rattle.std.proofs.lemmas.Bool.Decides.{nat_tests}
 use Rattle.shape.specs.Shapes.{branches_of, marks_of, insert, grown}
@@ -22,7 +22,7 @@ use Rattle.shape.proofs.Grown.{grown_more_lem}
 
 -- intervals that hold a value run upward
 pub upward : (es : List Ends) → All Sound es → All Upward es
-upward es ok = All_weaker Sound Upward (λ e s. s.0) es ok
+upward es ok = All-weaker Sound Upward (λ e s. s.0) es ok
 
 -- what lacks, by the space that rules need
 module _ (x : Tree) (T : List (List Ends)) where

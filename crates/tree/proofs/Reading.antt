@@ -53,7 +53,7 @@ module _ {s : Store} {d at : ℕ} {l : Label} {bel next : ℕ} {t : Records} (S 
   stood_rest =
       record {
         stands = record { holds = at_record.stands.holds.3; own = λ k. omega (arith, at_record.stands.own k) };
-        from = F.Rest-from;
+        from = F.rest_from;
         steps = omega (arith, at_record.steps);
         order = ordered_rest 0 l (shape F.below) (shape F.rest) at_record.order;
       }
@@ -113,7 +113,7 @@ module _ {s : Store} {d at n : ℕ} {P : Shape → Type 0} (W : Passing s d at n
     less =
         let steps : (a : ℕ) (r : Records) → Holds s d r → root r ≡ a → siblings (shape r) ≤ n → chain n s d a ≡ siblings (shape r) =
         λ a r H e le. ap (chain n s d) (sym e) ∙ chain_is s d r n H le in
-        omega (arith, fewer, steps next F.rest (stood_rest W.stood F).stands.holds F.Rest-from (omega (arith, W.turns, fewer)), steps at W.rest W.stood.stands.holds W.stood.from W.turns)
+        omega (arith, fewer, steps next F.rest (stood_rest W.stood F).stands.holds F.rest_from (omega (arith, W.turns, fewer)), steps at W.rest W.stood.stands.holds W.stood.from W.turns)
 
 -- below a mark there is nothing
 pub no_below : {s : Store} {d at n : ℕ} {P : Shape → Type 0} (W : Passing s d at n P) {l : Label} {next : ℕ} (F : Found at l 0xffff_ffff next W.rest) → F.below ≡ none

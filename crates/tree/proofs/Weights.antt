@@ -3,10 +3,8 @@ use Rattle.std.proofs.Common.{◌≡◌, ℕ, ◌+◌, ◌-◌, ◌<◌, ◌≤�
 use Rattle.std.proofs.lemmas.Bool.{cond-true, cond-false, cond_both, eq-eqb, lt-ltb, le-ltb, le-leb, lt-leb, and_from, and_left, and_right, cases_lt, cases_eq}
 use Rattle.std.proofs.lemmas.Bool.Decides.{nat_tests}
 use Rattle.shape.specs.Shapes.{piece, rule, Shape, bare, part, branches_of, marks_of, cut_at, add_mark, under, cut_above, gaps}
-use Rattle.tree.specs.Memory.{top}
 use Rattle.tree.specs.Links.{tail}
 use Rattle.tree.specs.Reads.{Ordered, weight, sat, Weighs}
-use Rattle.routing.specs.Space.{branches, marks}
 use Rattle.tree.specs.declared.space.Space.{Space}
 use Rattle.tree.proofs.Cuts.{cut_past, cut_here}
 use Rattle.tree.proofs.Descends.{above_is}

@@ -1,5 +1,5 @@
 // The space that a tree takes, and what it would take with one more rule. Nothing is written.
-ghost use Rattle.std.specs.Prelude.{◌≡◌, ℕ, ◌+◌, ◌-◌, ◌<◌, cond, ◌&&◌, ltb, leb, length, if◌then◌else◌, nat_le, nat_lt};
+ghost use Rattle.std.specs.Prelude.{◌≡◌, ℕ, ◌+◌, ◌-◌, ◌<◌, cond, ◌&&◌, length, if◌then◌else◌, nat_le, nat_lt};
 ghost use Rattle.shape.specs.Shapes.{insert};
 ghost use Rattle.std.specs.List.{AllByRecursion as All};
 ghost use Rattle.shape.specs.Meaning.{Upward};
@@ -12,7 +12,7 @@ use routing::ends::Ends;
 
 // What a new branch takes, if there is a gap from `want` on before one that begins at `low`.
 fn gap_before(want: u64, low: u32, high: u32, new: Space) -> Space
-    ensures { result ≡ (if leb want high && nat_lt want low then new else (record { branches = 0; marks = 0 })) }
+    ensures { result ≡ (if nat_le want high && nat_lt want low then new else (record { branches = 0; marks = 0 })) }
 {
     if want <= high as u64 && want < low as u64 {
         new
@@ -23,7 +23,7 @@ fn gap_before(want: u64, low: u32, high: u32, new: Space) -> Space
 
 // What a new branch takes, if there is a gap from `want` on up to the end.
 fn gap_after(want: u64, high: u32, new: Space) -> Space
-    ensures { result ≡ (if leb want high then new else (record { branches = 0; marks = 0 })) }
+    ensures { result ≡ (if nat_le want high then new else (record { branches = 0; marks = 0 })) }
 {
     if want <= high as u64 { new } else { NOTHING }
 }
@@ -55,7 +55,7 @@ impl Store<'_> {
         requires { (((t : Records) × Stood self.now (left - 1) b.below t)) × (0 < left) }
         ensures { (t : Records) → Stood self.now (left - 1) b.below t → Weighs result (λ p q.
             cond (nat_le ends.low b.low && nat_le b.high ends.high) 0
-            (if ltb b.low ends.low && nat_lt ends.high b.high then p + weight p q (shape t) + (p + weight p q (shape t)) else p + weight p q (shape t))) }
+            (if nat_lt b.low ends.low && nat_lt ends.high b.high then p + weight p q (shape t) + (p + weight p q (shape t)) else p + weight p q (shape t))) }
     {
         if ends.low <= b.low && b.high <= ends.high {
             return NOTHING;
@@ -72,7 +72,7 @@ impl Store<'_> {
     fn inside(&self, left: usize, b: Branch, ends: Ends, rest: &[Ends]) -> Space
         requires { (((t : Records) × Stood self.now (left - 1) b.below t)) × ((left ≡ length rest.now + 1) × All Upward rest.now) }
         ensures { (t : Records) (i : ℕ) → Stood self.now (left - 1) b.below t → Weighs result (λ p q.
-            (if leb ends.low b.high && nat_le b.low ends.high then p + weight p q (insert rest.now i (shape t)) else 0)) }
+            (if nat_le ends.low b.high && nat_le b.low ends.high then p + weight p q (insert rest.now i (shape t)) else 0)) }
     {
         if ends.low <= b.high && b.low <= ends.high {
             return ONE_BRANCH.plus(self.space_with(left - 1, b.below, rest));

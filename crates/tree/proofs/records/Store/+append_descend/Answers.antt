@@ -1,4 +1,4 @@
-use Rattle.std.proofs.Common.{ℕ, ◌-◌, ◌<◌, List, length, get_or, take, drop, sym, refl, ap, subst, arith}
+use Rattle.std.proofs.Common.{ℕ, ◌<◌, List, length, sym, refl, ap, subst, arith}
 use Rattle.std.specs.List.{AllByRecursion as All}
 use Rattle.shape.specs.Shapes.{Shape, under, ready, insert}
 use Rattle.shape.specs.Meaning.{Upward}
@@ -11,8 +11,8 @@ use Rattle.tree.proofs.Grows.{Grows}
 use Rattle.tree.proofs.Descends.{first_ends, other_ends, no_ends, under_past, below_fits, alive_after, turn_change, turned, ends_split, ahead, onward, chained, under_grows, insert_grows}
 use Rattle.tree.proofs.records.Store.+append_descend.Goals as goal
 
-pub append-add-mark-requires : goal.append-add-mark-requires
-append-add-mark-requires t c =
+pub append-add_mark-requires : goal.append-add_mark-requires
+append-add_mark-requires t c =
     let (u, K) = c.requires.0 in
     let z = no_ends _ _ c.requires.1.0 c.if-left-eq0.true in (
       u,
@@ -103,8 +103,8 @@ descend-append-below-requires t c =
     let F = see_branch _ _ _ _ W (omega (arith, c.requires.1.0)) c.loop-at-test.true c.branch-b.ensures in
     (omega (arith, c.decreases, c.requires.1.0), ((F.below, below_fits c.args.ends.low c.args.ends.high c.args.rest.now c.args.i W F c.if-b-ends.false c.if-ends-b.false), (omega (arith, c.requires.1.0), c.requires.1.1)))
 
-pub descend-write-branch-requires : goal.descend-write-branch-requires
-descend-write-branch-requires t c =
+pub descend-write_branch-requires : goal.descend-write_branch-requires
+descend-write_branch-requires t c =
     let W = c.loop-at.invariant _ c.requires.0.1 in
     let F = see_branch _ _ _ _ W (omega (arith, c.requires.1.0)) c.loop-at-test.true c.branch-b.ensures in
     let (u, B) = c.append-below.ensures F.below (below_fits c.args.ends.low c.args.ends.high c.args.rest.now c.args.i W F c.if-b-ends.false c.if-ends-b.false) in
@@ -115,7 +115,7 @@ descend-loop-at-smaller t c =
     let W = c.loop-at.invariant _ c.requires.0.1 in
     let F = see_branch _ _ _ _ W (omega (arith, c.requires.1.0)) c.loop-at-test.true c.branch-b.ensures in
     let (u, B) = c.append-below.ensures F.below (below_fits c.args.ends.low c.args.ends.high c.args.rest.now c.args.i W F c.if-b-ends.false c.if-ends-b.false) in
-    let Q = written_branch _ _ c.args.left _ _ (λ z. omega (arith, c.requires.1.0)) c.write-branch.ensures in
+    let Q = written_branch _ _ c.args.left _ _ (λ z. omega (arith, c.requires.1.0)) c.write_branch.ensures in
     less W F _
     (turn_change c.args.ends.low c.args.ends.high c.args.rest.now c.args.i W F c.if-b-ends.false c.if-ends-b.false _ _ _ u B Q).holds.3
 
@@ -124,7 +124,7 @@ descend-loop-at-preserved t c tree K =
     let W = c.loop-at.invariant tree K in
     let F = see_branch _ _ _ _ W (omega (arith, c.requires.1.0)) c.loop-at-test.true c.branch-b.ensures in
     let (u, B) = c.append-below.ensures F.below (below_fits c.args.ends.low c.args.ends.high c.args.rest.now c.args.i W F c.if-b-ends.false c.if-ends-b.false) in
-    let Q = written_branch _ _ c.args.left _ _ (λ z. omega (arith, c.requires.1.0)) c.write-branch.ensures in
+    let Q = written_branch _ _ c.args.left _ _ (λ z. omega (arith, c.requires.1.0)) c.write_branch.ensures in
     turned c.args.ends.low c.args.ends.high c.args.rest.now c.args.i W F c.if-b-ends.false c.if-ends-b.false _ _ _ u B Q
 
 pub descend-returns : goal.descend-returns

@@ -1,10 +1,9 @@
-use Rattle.std.proofs.Common.{◌+◌, ◌-◌, ◌<◌, ◌≤◌, max, ◌&&◌, ltb, leb, List, length, get_or, take, drop, sym, ap, ◌∙◌, subst, arith, rules}
+use Rattle.std.proofs.Common.{◌+◌, ◌<◌, ◌≤◌, max, ◌&&◌, ltb, leb, length, sym, ap, ◌∙◌, subst, arith, rules}
 use Rattle.std.specs.List.{AllByRecursion as All}
 use Rattle.shape.specs.Shapes.{cut_at, under, cut_above, gaps, insert}
 use Rattle.shape.specs.Meaning.{Upward}
 use Rattle.tree.specs.Links.{none, shape}
 use Rattle.tree.specs.Reads.{Stood, weight}
-use Rattle.routing.specs.declared.ends.Ends.{Ends}
 use Rattle.tree.proofs.Descends.{first_ends, other_ends, ends_split, no_ends}
 use Rattle.tree.proofs.Reading.{begin, stays_branch, seen_branch, ended, at_record, below, after, less, nothing}
 use Rattle.tree.proofs.Weights.{marked, weighs_as, weighs_both, weighs_when, branch_weighs, mark_weighs, nothing_weighs, no_part, toward_none, turned, finished}
@@ -14,20 +13,20 @@ pub inside-returns : goal.inside-returns
 inside-returns t c u i S =
     weighs_as _ (λ p q. no_part p q c.args.ends.low c.args.ends.high (insert c.args.rest.now i) c.args.b.low c.args.b.high (shape u) c.else-ends-b.either) nothing_weighs
 
-pub space-with-returns-then-left-eq0 : goal.space-with-returns-then-left-eq0
-space-with-returns-then-left-eq0 t c u i S =
+pub space_with-returns-then-left-eq0 : goal.space_with-returns-then-left-eq0
+space_with-returns-then-left-eq0 t c u i S =
     weighs_as _
     (λ p q. sym (ap (λ xs. weight p q (insert xs i (shape u))) (no_ends _ _ c.requires.1.0 c.if-left-eq0.true) ∙ marked p q i (shape u)))
-    (weighs_both (c.space-of.ensures u (subst (λ d. Stood c.args.self.now d c.args.first u) c.if-left-eq0.true S)) mark_weighs c.plus.ensures)
+    (weighs_both (c.space_of.ensures u (subst (λ d. Stood c.args.self.now d c.args.first u) c.if-left-eq0.true S)) mark_weighs c.plus.ensures)
 
-pub space-with-space-with-requires : goal.space-with-space-with-requires
-space-with-space-with-requires t c =
+pub space_with-space_with-requires : goal.space_with-space_with-requires
+space_with-space_with-requires t c =
     let xs = c.args.rule.now in
     let pos : 0 < length xs = omega (arith, c.requires.1.0, c.if-left-eq0.false) in
     (omega (arith, c.decreases, c.if-left-eq0.false), ((none, nothing _ _), (omega (arith, c.requires.1.0, ap length (ends_split xs pos)), (subst (All Upward) (ends_split xs pos) c.requires.1.1).1)))
 
-pub space-with-loop-at-init : goal.space-with-loop-at-init
-space-with-loop-at-init t c =
+pub space_with-loop-at-init : goal.space_with-loop-at-init
+space_with-loop-at-init t c =
     let xs = c.args.rule.now in
     let pos : 0 < length xs = omega (arith, c.requires.1.0, c.if-left-eq0.false) in (
       λ u i S.
@@ -36,18 +35,18 @@ space-with-loop-at-init t c =
       omega (arith, c.from-want.ensures),
     )
 
-pub space-with-branch-b-requires : goal.space-with-branch-b-requires
-space-with-branch-b-requires t c = stays_branch (c.loop-at.invariant.0 _ 0 c.requires.0.1) (omega (arith, c.if-left-eq0.false)) c.loop-at-test.true
+pub space_with-branch-b-requires : goal.space_with-branch-b-requires
+space_with-branch-b-requires t c = stays_branch (c.loop-at.invariant.0 _ 0 c.requires.0.1) (omega (arith, c.if-left-eq0.false)) c.loop-at-test.true
 
-pub space-with-outside-requires : goal.space-with-outside-requires
-space-with-outside-requires t c =
+pub space_with-outside-requires : goal.space_with-outside-requires
+space_with-outside-requires t c =
     let left : 0 < c.args.left = omega (arith, c.if-left-eq0.false) in
     let W = c.loop-at.invariant.0 _ 0 c.requires.0.1 in
     let F = seen_branch W left c.loop-at-test.true c.branch-b.ensures in
     ((F.below, below W F), left)
 
-pub space-with-inside-requires : goal.space-with-inside-requires
-space-with-inside-requires t c =
+pub space_with-inside-requires : goal.space_with-inside-requires
+space_with-inside-requires t c =
     let xs = c.args.rule.now in
     let pos : 0 < length xs = omega (arith, c.requires.1.0, c.if-left-eq0.false) in
     let left : 0 < c.args.left = omega (arith, c.if-left-eq0.false) in
@@ -55,14 +54,14 @@ space-with-inside-requires t c =
     let F = seen_branch W left c.loop-at-test.true c.branch-b.ensures in
     (omega (arith, c.decreases), ((F.below, below W F), (omega (arith, c.requires.1.0, ap length (ends_split xs pos)), (subst (All Upward) (ends_split xs pos) c.requires.1.1).1)))
 
-pub space-with-loop-at-smaller : goal.space-with-loop-at-smaller
-space-with-loop-at-smaller t c =
+pub space_with-loop-at-smaller : goal.space_with-loop-at-smaller
+space_with-loop-at-smaller t c =
     let left : 0 < c.args.left = omega (arith, c.if-left-eq0.false) in
     let W = c.loop-at.invariant.0 _ 0 c.requires.0.1 in
     less W (seen_branch W left c.loop-at-test.true c.branch-b.ensures)
 
-pub space-with-loop-at-preserved : goal.space-with-loop-at-preserved
-space-with-loop-at-preserved t c =
+pub space_with-loop-at-preserved : goal.space_with-loop-at-preserved
+space_with-loop-at-preserved t c =
     let xs = c.args.rule.now in
     let pos : 0 < length xs = omega (arith, c.requires.1.0, c.if-left-eq0.false) in
     let left : 0 < c.args.left = omega (arith, c.if-left-eq0.false) in
@@ -70,8 +69,8 @@ space-with-loop-at-preserved t c =
       λ u i S.
           let W = c.loop-at.invariant.0 u i S in
           let F = seen_branch W left c.loop-at-test.true c.branch-b.ensures in
-          let new = weighs_both branch_weighs (c.space-with.ensures none i (nothing _ _)) c.plus-new.ensures in
-          let gap = weighs_when (leb c.loop-at.want e.high && ltb c.loop-at.want c.branch-b.result.low) new c.gap-before-gap.ensures in
+          let new = weighs_both branch_weighs (c.space_with.ensures none i (nothing _ _)) c.plus-new.ensures in
+          let gap = weighs_when (leb c.loop-at.want e.high && ltb c.loop-at.want c.branch-b.result.low) new c.gap_before-gap.ensures in
           let parts = weighs_both (c.outside.ensures F.below (below W F)) (c.inside.ensures F.below i (below W F)) c.plus-parts.ensures in
           let small : c.branch-b.result.high ≤ 0xffff_ffff = search rules in
           after W F _
@@ -79,10 +78,10 @@ space-with-loop-at-preserved t c =
       omega (arith, c.loop-at.invariant.1, c.max-want.ensures),
     )
 
-pub space-with-returns : goal.space-with-returns
-space-with-returns t c u i S =
+pub space_with-returns : goal.space_with-returns
+space_with-returns t c u i S =
     let xs = c.args.rule.now in
     let e = first_ends xs in
-    let new = weighs_both branch_weighs (c.space-with.ensures none i (nothing _ _)) c.plus-new.ensures in
-    let last = weighs_when (leb c.loop-at.want e.high) new c.gap-after.ensures in
+    let new = weighs_both branch_weighs (c.space_with.ensures none i (nothing _ _)) c.plus-new.ensures in
+    let last = weighs_when (leb c.loop-at.want e.high) new c.gap_after.ensures in
     finished e.low e.high (insert (other_ends xs) i) c.loop-at.want c.loop-at.invariant.1 last c.plus-2.ensures (ended (c.loop-at.invariant.0 u i S) c.loop-at-test.false)

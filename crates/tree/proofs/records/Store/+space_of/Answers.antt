@@ -26,8 +26,8 @@ loop-at-preserved-then-left-eq0 t c u S =
 pub branch-b-requires : goal.branch-b-requires
 branch-b-requires t c = stays_branch (c.loop-at.invariant _ c.requires.1) (omega (arith, c.if-left-eq0.false)) c.loop-at-test.true
 
-pub space-of-requires : goal.space-of-requires
-space-of-requires t c =
+pub space_of-requires : goal.space_of-requires
+space_of-requires t c =
     let pos : 0 < c.args.left = omega (arith, c.if-left-eq0.false) in
     let W = c.loop-at.invariant _ c.requires.1 in
     let F = seen_branch W pos c.loop-at-test.true c.branch-b.ensures in
@@ -46,7 +46,7 @@ loop-at-preserved t c u S =
     let F = seen_branch W pos c.loop-at-test.true c.branch-b.ensures in
     after W F _
     (λ T.
-    toward_more _ (c.space-of.ensures F.below (below W F)) c.plus-sum-in-loop-at.ensures (λ p q. refl)
+    toward_more _ (c.space_of.ensures F.below (below W F)) c.plus-sum-in-loop-at.ensures (λ p q. refl)
     (toward_more (λ p q. weight p q (shape F.below) + weight p q (shape F.rest)) branch_weighs c.plus.ensures (λ p q. omega arith) T))
 
 pub returns : goal.returns

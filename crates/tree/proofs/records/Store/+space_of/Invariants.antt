@@ -5,8 +5,8 @@ use Rattle.tree.proofs.Reading.{Passing}
 use Rattle.tree.proofs.Weights.{Toward}
 use Rattle.tree.proofs.records.Store.+space_of.Given as goal
 
-abbrev pub decreases-space-of : goal.decreases-space-of
-decreases-space-of l = l.left
+abbrev pub decreases-space_of : goal.decreases-space_of
+decreases-space_of l = l.left
 
 abbrev pub invariant-loop-at : goal.invariant-loop-at
 invariant-loop-at l =

@@ -7,7 +7,7 @@ use Rattle.tree.proofs.records.Store.add_mark.Goals as goal
 
 pub returns-then-first-eq-NONE : goal.returns-then-first-eq-NONE
 returns-then-first-eq-NONE c t K =
-    first_mark _ _ _ _ _ t K c.if-first-eq-NONE.true c.push-mark.ensures.low (new_mark _ _ 0 _ _ refl c.push-mark.ensures.new)
+    first_mark _ _ _ _ _ t K c.if-first-eq-NONE.true c.push_mark.ensures.low (new_mark _ _ 0 _ _ refl c.push_mark.ensures.new)
 
 pub loop-self-init : goal.loop-self-init
 loop-self-init c = (start _ _ _ _, c.if-first-eq-NONE.false)
@@ -18,14 +18,14 @@ next-next-requires c = alive (c.loop-self.invariant.0 _ c.requires.1) c.loop-sel
 pub link-requires : goal.link-requires
 link-requires c =
     let p = place 0 c.loop-self.at in
-    omega (arith, alive (c.loop-self.invariant.0 _ c.requires.1) c.loop-self.invariant.1, c.push-mark-new.ensures.new.alive p)
+    omega (arith, alive (c.loop-self.invariant.0 _ c.requires.1) c.loop-self.invariant.1, c.push_mark-new.ensures.new.alive p)
 
 pub returns-then-next : goal.returns-then-next
 returns-then-next c t K =
     let W = c.loop-self.invariant.0 t K in
     let F = see_next _ W c.loop-self.invariant.1 c.next-next.ensures in
-    last_mark _ _ _ W F c.if-next.true c.push-mark-new.ensures.low
-    (new_mark _ _ 0 _ _ refl c.push-mark-new.ensures.new) c.link.ensures
+    last_mark _ _ _ W F c.if-next.true c.push_mark-new.ensures.low
+    (new_mark _ _ 0 _ _ refl c.push_mark-new.ensures.new) c.link.ensures
 
 pub loop-self-smaller : goal.loop-self-smaller
 loop-self-smaller c =

@@ -11,35 +11,35 @@ loop-at-init c t K = start _ _ _ _ t K
 pub branch-b-requires : goal.branch-b-requires
 branch-b-requires c = alive_branch (c.loop-at.invariant _ c.requires.0.1) c.requires.1 c.loop-at-test.true
 
-pub copy-node-copy-requires : goal.copy-node-copy-requires
-copy-node-copy-requires c =
+pub copy_node-copy-requires : goal.copy_node-copy-requires
+copy_node-copy-requires c =
     let W = c.loop-at.invariant _ c.requires.0.1 in
     let F = see_branch _ _ _ _ W c.requires.1 c.loop-at-test.true c.branch-b.ensures in
     (F.below, copiable W F c.if-b-x.true c.if-x-b.true)
 
-pub push-branch-new-requires : goal.push-branch-new-requires
-push-branch-new-requires c =
+pub push_branch-new-requires : goal.push_branch-new-requires
+push_branch-new-requires c =
     let W = c.loop-at.invariant _ c.requires.0.1 in
     let F = see_branch _ _ _ _ W c.requires.1 c.loop-at-test.true c.branch-b.ensures in
-    let (u, C) = c.copy-node-copy.ensures F.below (copiable W F c.if-b-x.true c.if-x-b.true) in
+    let (u, C) = c.copy_node-copy.ensures F.below (copiable W F c.if-b-x.true c.if-x-b.true) in
     omega (arith, room W F c.if-b-x.true c.if-x-b.true, C.change.branches, ap branches_of C.same, C.change.all)
 
-pub write-branch-requires : goal.write-branch-requires
-write-branch-requires c =
+pub write_branch-requires : goal.write_branch-requires
+write_branch-requires c =
     let W = c.loop-at.invariant _ c.requires.0.1 in
     let F = see_branch _ _ _ _ W c.requires.1 c.loop-at-test.true c.branch-b.ensures in
-    let (u, C) = c.copy-node-copy.ensures F.below (copiable W F c.if-b-x.true c.if-x-b.true) in
+    let (u, C) = c.copy_node-copy.ensures F.below (copiable W F c.if-b-x.true c.if-x-b.true) in
     let at = c.loop-at.at in
-    omega (arith, alive_branch W c.requires.1 c.loop-at-test.true, C.change.grown at, c.push-branch-new.ensures.new.alive at)
+    omega (arith, alive_branch W c.requires.1 c.loop-at-test.true, C.change.grown at, c.push_branch-new.ensures.new.alive at)
 
 pub returns-then-x-b : goal.returns-then-x-b
 returns-then-x-b c t K =
     let W = c.loop-at.invariant t K in
     let F = see_branch _ _ _ _ W c.requires.1 c.loop-at-test.true c.branch-b.ensures in
-    let (u, C) = c.copy-node-copy.ensures F.below (copiable W F c.if-b-x.true c.if-x-b.true) in
-    halved W F c.if-b-x.true c.if-x-b.true _ _ _ _ _ u C c.push-branch-new.ensures.low
-    (new_branch _ _ _ _ _ (λ z. omega (arith, c.requires.1)) c.push-branch-new.ensures.new)
-    (written_branch _ _ _ _ _ (λ z. omega (arith, c.requires.1)) c.write-branch.ensures)
+    let (u, C) = c.copy_node-copy.ensures F.below (copiable W F c.if-b-x.true c.if-x-b.true) in
+    halved W F c.if-b-x.true c.if-x-b.true _ _ _ _ _ u C c.push_branch-new.ensures.low
+    (new_branch _ _ _ _ _ (λ z. omega (arith, c.requires.1)) c.push_branch-new.ensures.new)
+    (written_branch _ _ _ _ _ (λ z. omega (arith, c.requires.1)) c.write_branch.ensures)
 
 pub loop-at-smaller : goal.loop-at-smaller
 loop-at-smaller c =

@@ -15,20 +15,20 @@ returns-then-high-b c t K =
     let F = see_branch _ _ _ _ W c.requires.1.0 c.loop-at-test.true c.branch-b.ensures in
     full c.args.low c.args.high c.loop-at.want W F c.if-high-b.true
 
-pub gap-before-requires : goal.gap-before-requires
-gap-before-requires c =
+pub gap_before-requires : goal.gap_before-requires
+gap_before-requires c =
     let W = c.loop-at.invariant.0 _ c.requires.0.1 in
     let F = see_branch _ _ _ _ W c.requires.1.0 c.loop-at-test.true c.branch-b.ensures in
     record {
-      stands = (F.rest, rest_stands W F, F.Rest-from);
+      stands = (F.rest, rest_stands W F, F.rest_from);
       inside = (c.requires.1.0, omega (arith, c.max-want.ensures, c.if-high-b.false, c.loop-at.invariant.1));
     }
 
-pub put-after-requires : goal.put-after-requires
-put-after-requires c =
+pub put_after-requires : goal.put_after-requires
+put_after-requires c =
     let W = c.loop-at.invariant.0 _ c.requires.0.1 in
     let F = see_branch _ _ _ _ W c.requires.1.0 c.loop-at-test.true c.branch-b.ensures in
-    let G = c.in-Some.ensures F.rest (rest_stands W F) F.Rest-from in (
+    let G = c.in-Some.ensures F.rest (rest_stands W F) F.rest_from in (
       alive_branch W c.requires.1.0 c.loop-at-test.true,
       ((stands W F).holds.0, room_gap c.args.low c.args.high c.loop-at.want W F _ c.max-want.ensures _ G),
     )
@@ -37,8 +37,8 @@ pub loop-at-smaller-in-Some : goal.loop-at-smaller-in-Some
 loop-at-smaller-in-Some c =
     let W = c.loop-at.invariant.0 _ c.requires.0.1 in
     let F = see_branch _ _ _ _ W c.requires.1.0 c.loop-at-test.true c.branch-b.ensures in
-    let G = c.in-Some.ensures F.rest (rest_stands W F) F.Rest-from in
-    let (s₁, (new, N)) = c.put-after.ensures in
+    let G = c.in-Some.ensures F.rest (rest_stands W F) F.rest_from in
+    let (s₁, (new, N)) = c.put_after.ensures in
     less W F _ (gap_change c.args.low c.args.high c.loop-at.want W F _ c.max-want.ensures _ G s₁ _ new c.requires.1.0 c.branch-b.ensures N).holds.3.3
 
 pub loop-at-preserved-in-Some : goal.loop-at-preserved-in-Some
@@ -46,8 +46,8 @@ loop-at-preserved-in-Some c = (
   λ t K.
       let W = c.loop-at.invariant.0 t K in
       let F = see_branch _ _ _ _ W c.requires.1.0 c.loop-at-test.true c.branch-b.ensures in
-      let G = c.in-Some.ensures F.rest (rest_stands W F) F.Rest-from in
-      let (s₁, (new, N)) = c.put-after.ensures in
+      let G = c.in-Some.ensures F.rest (rest_stands W F) F.rest_from in
+      let (s₁, (new, N)) = c.put_after.ensures in
       step_two W F _ _ _ _ (gap_change c.args.low c.args.high c.loop-at.want W F _ c.max-want.ensures _ G s₁ _ new c.requires.1.0 c.branch-b.ensures N)
       (gap_is c.args.low c.args.high c.loop-at.want W F _ c.max-want.ensures _ G),
   omega (arith, c.max-want.ensures, c.if-high-b.false, c.loop-at.invariant.1),
@@ -64,7 +64,7 @@ loop-at-preserved c = (
   λ t K.
       let W = c.loop-at.invariant.0 t K in
       let F = see_branch _ _ _ _ W c.requires.1.0 c.loop-at-test.true c.branch-b.ensures in
-      pass W F _ (over_is c.args.low c.args.high c.loop-at.want W F _ c.max-want.ensures (c.in_default.ensures F.rest (rest_stands W F) F.Rest-from)),
+      pass W F _ (over_is c.args.low c.args.high c.loop-at.want W F _ c.max-want.ensures (c.in_default.ensures F.rest (rest_stands W F) F.rest_from)),
   omega (arith, c.max-want.ensures, c.if-high-b.false, c.loop-at.invariant.1),
 )
 

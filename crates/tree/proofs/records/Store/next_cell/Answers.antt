@@ -9,10 +9,10 @@ pub settle-requires : goal.settle-requires
 settle-requires c =
     let R = c.requires.walk.1.1 in
     record {
-      walk = (c.requires.walk.1.0, leave R.4 c.requires.few.1 c.branch_at.ensures);
+      walk = (c.requires.walk.1.0, leave R.4 c.requires.few.1 c.branch-at.ensures);
       few = (c.requires.few.0, c.requires.few.1, omega arith);
       clear = R.2;
     }
 
 pub returns : goal.returns
-returns c x cs R = c.settle.ensures cs (leave R.4 c.requires.few.1 c.branch_at.ensures)
+returns c x cs R = c.settle.ensures cs (leave R.4 c.requires.few.1 c.branch-at.ensures)

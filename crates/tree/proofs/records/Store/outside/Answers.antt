@@ -5,4 +5,4 @@ use Rattle.tree.proofs.records.Store.outside.Goals as goal
 pub returns : goal.returns
 returns c t S =
     weighs_as _ (λ p q. one_part p q c.args.ends.low c.args.ends.high c.args.b.low c.args.b.high (shape t) c.else-ends-b.either c.else-b-ends-2.either)
-    (weighs_both branch_weighs (c.space-of.ensures t S) c.plus-part.ensures)
+    (weighs_both branch_weighs (c.space_of.ensures t S) c.plus-part.ensures)

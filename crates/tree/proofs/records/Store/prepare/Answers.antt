@@ -20,8 +20,8 @@ cut-requires c =
     let (t, K) = c.requires.0 in
     ((t, ahead (cut_at c.args.low) (later c.args.low c.args.high) _ _ _ t (later_grows c.args.low c.args.high) K), c.requires.1.0)
 
-pub cut-above-requires : goal.cut-above-requires
-cut-above-requires c =
+pub cut_above-requires : goal.cut_above-requires
+cut_above-requires c =
     let cut = cut_at c.args.low in
     let above = cut_above c.args.high in
     let fill = gaps c.args.low c.args.high in

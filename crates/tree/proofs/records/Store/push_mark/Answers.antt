@@ -21,11 +21,11 @@ returns c =
           };
     }
 
-pub offset-bounds-self-at : goal.offset-bounds-self-at
-offset-bounds-self-at c = let l = space_low (length c.args.self.now.marks.now) in search rules
+pub offset_bounds-self-at : goal.offset_bounds-self-at
+offset_bounds-self-at c = let l = space_low (length c.args.self.now.marks.now) in search rules
 
-pub overflow-add-self : goal.overflow-add-self
-overflow-add-self c = let l = space_low (length c.args.self.now.marks.now) in search rules
+pub overflow_add-self : goal.overflow_add-self
+overflow_add-self c = let l = space_low (length c.args.self.now.marks.now) in search rules
 
-pub overflow-cast-result : goal.overflow-cast-result
-overflow-cast-result c = let l = space_low (length c.args.self.now.marks.now) in search rules
+pub overflow_cast-result : goal.overflow_cast-result
+overflow_cast-result c = let l = space_low (length c.args.self.now.marks.now) in search rules

@@ -64,11 +64,11 @@ branch-at-requires c = rise_alive (c.loop-k.invariant.0 _ c.requires.walk.1) c.l
 
 pub loop-k-smaller : goal.loop-k-smaller
 loop-k-smaller c =
-    (rise (c.loop-k.invariant.0 _ c.requires.walk.1) c.loop-k-test.true (omega (arith, c.if-k-eq0.false)) c.if-at.false c.branch_at.ensures).1
+    (rise (c.loop-k.invariant.0 _ c.requires.walk.1) c.loop-k-test.true (omega (arith, c.if-k-eq0.false)) c.if-at.false c.branch-at.ensures).1
 
 pub loop-k-preserved : goal.loop-k-preserved
 loop-k-preserved c = (
-  λ cs S. (rise (c.loop-k.invariant.0 cs S) c.loop-k-test.true (omega (arith, c.if-k-eq0.false)) c.if-at.false c.branch_at.ensures).0,
+  λ cs S. (rise (c.loop-k.invariant.0 cs S) c.loop-k-test.true (omega (arith, c.if-k-eq0.false)) c.if-at.false c.branch-at.ensures).0,
   c.loop-k.invariant.1,
   c.loop-k.invariant.2,
   c.loop-k.invariant.3,
