@@ -11,7 +11,6 @@ import re
 import sys
 
 NAMES = dict(line.split() for line in """
-All-weaker All_weaker
 Cells-are-right CellsAreRight
 Cells-cover CellsCover
 Copied-one CopiedOne

@@ -15,6 +15,7 @@ use routing::widths::Widths;
 use space::{SpaceFault, print_space};
 use std::io;
 use std::io::Read;
+use std::process::ExitCode;
 
 // No lawful file is longer than 35,864 bytes.
 const MOST: usize = 40960;
@@ -75,14 +76,28 @@ fn report<K: Kind>(rt: &HostRuntime, bytes: &[u8]) -> Result<(), Fault> {
     Ok(())
 }
 
-fn main(rt: HostRuntime) -> Result<(), Fault> {
+// Reads the bytes and reports on the kind of decision that they say.
+fn run(rt: &HostRuntime) -> Result<(), Fault> {
     let mut room = [0u8; MOST];
     let mut stdin = rt.stdin();
     let n = fill(&mut stdin, &mut room)?;
     let bytes = &room[0..n];
     if byte_at(bytes, 2) == 2 {
-        report::<Handling>(&rt, bytes)
+        report::<Handling>(rt, bytes)
     } else {
-        report::<Queue>(&rt, bytes)
+        report::<Queue>(rt, bytes)
+    }
+}
+
+// A refused file ends the program with status 1; what it says of it is printed by then.
+fn main(rt: HostRuntime) -> io::Result<ExitCode> {
+    match run(&rt) {
+        Ok(()) => Ok(ExitCode::SUCCESS),
+        Err(Fault::Io(error)) => Err(error),
+        Err(Fault::Refused) => Ok(ExitCode::FAILURE),
+        Err(Fault::Memory) => {
+            eprintln!(rt; "tree_report: there is no memory for the tree")?;
+            Ok(ExitCode::FAILURE)
+        }
     }
 }

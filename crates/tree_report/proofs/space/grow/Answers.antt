@@ -1,6 +1,5 @@
-use Rattle.std.proofs.Common.{◌≡◌, ◌+◌, List, [], ◌∷◌, ◌++◌, length, None, sym, refl, ap, ◌∙◌, subst, arith, length-append, rules}
+use Rattle.std.proofs.Common.{◌≡◌, [], ◌∷◌, ◌++◌, length, sym, refl, ◌∙◌, subst, arith, length-append, rules}
 use Rattle.routing.specs.Fields.{widths_of}
-use Rattle.routing.specs.Lawful.{ends_refusal}
 use Rattle.tree.specs.Means.{Means}
 use Rattle.tree.proofs.Lawfuls.{lawful_proper}
 use Rattle.tree_report.proofs.space.grow.Goals as goal

@@ -1,7 +1,7 @@
 use Rattle.tree_report.proofs.space.print_matching.Goals as goal
 
 pub loop-init : goal.loop-init
-loop-init c = let (T, e) = c.requires in (_, c.look-up-at.ensures T e)
+loop-init c = let (T, e) = c.requires in (_, c.look_up-at.ensures T e)
 
 pub mark-mark-requires : goal.mark-mark-requires
 mark-mark-requires c = (c.loop.invariant, c.if-at.false)
