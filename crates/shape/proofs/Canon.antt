@@ -1,6 +1,6 @@
 -- The tree that the cuts of numbered rules tell, and that a rule more makes it the tree of one rule more. Assumes nothing.
 use Rattle.std.proofs.Common.{◌≡◌, ℕ, zero, suc, ◌+◌, ◌-◌, ◌<◌, ◌≤◌, Bool, true, false, cond, ◌||◌, ◌⊎◌, List, [], ◌∷◌, ◌++◌, map, length, take, drop, filter, sym, refl, ap, ◌∙◌, ap₂, inl, inr, ⊎_elim, arith, drop-cons}
-use Rattle.std.specs.List.{AllByRecursion as All}
+use Rattle.std.specs.List.{AllByRecursion}
 use Rattle.std.proofs.lemmas.List.{append-nil, map_push}
 use Rattle.std.proofs.lemmas.List.Elements.{filter-append}
 use Rattle.std.proofs.ByRecursion.{all_kept_by, All-weaker}
@@ -71,11 +71,11 @@ abbrev pub Ended : (m : ℕ) (cs : List ℕ) → Numbered → Type 0
 Ended m cs r = In (field m r).low cs × In ((field m r).high + 1) cs
 
 -- and still are after one cut more
-ends_put : (m x : ℕ) (cs : List ℕ) (T : List Numbered) → All (Ended m cs) T → All (Ended m (put x cs)) T
+ends_put : (m x : ℕ) (cs : List ℕ) (T : List Numbered) → AllByRecursion (Ended m cs) T → AllByRecursion (Ended m (put x cs)) T
 ends_put m x cs T e = All-weaker (Ended m cs) (Ended m (put x cs)) (λ r i. (in_put _ x cs i.0, in_put _ x cs i.1)) T e
 
 -- among the cuts of rules are their ends
-pub ends_cuts : (m : ℕ) (T : List Numbered) → All (Ended m (cuts_of m T)) T
+pub ends_cuts : (m : ℕ) (T : List Numbered) → AllByRecursion (Ended m (cuts_of m T)) T
 ends_cuts m [] = tt
 ends_cuts m (r ∷ T) = (
   (put_in (field m r).low (put ((field m r).high + 1) (cuts_of m T)), in_put _ (field m r).low _ (put_in ((field m r).high + 1) (cuts_of m T))),
@@ -98,12 +98,12 @@ cuts_push m (s ∷ T) r =
     ∙ put_swap a h _ ∙ ap (put h) (put_swap a l _)
 
 -- tests that agree keep the same rules
-pub kept_same : (p q : Numbered → Bool) (T : List Numbered) → All (λ r. p r ≡ q r) T → filter p T ≡ filter q T
+pub kept_same : (p q : Numbered → Bool) (T : List Numbered) → AllByRecursion (λ r. p r ≡ q r) T → filter p T ≡ filter q T
 kept_same p q [] e = refl
 kept_same p q (r ∷ T) e = ap₂ (λ t l. cond t (r ∷ l) l) e.0 (kept_same p q T e.1)
 
 -- a test that no rule passes keeps none
-pub kept_none : (p : Numbered → Bool) (T : List Numbered) → All (λ r. p r ≡ false) T → filter p T ≡ []
+pub kept_none : (p : Numbered → Bool) (T : List Numbered) → AllByRecursion (λ r. p r ≡ false) T → filter p T ≡ []
 kept_none p [] e = refl
 kept_none p (r ∷ T) e = cond-false _ _ _ e.0 ∙ kept_none p T e.1
 
@@ -131,36 +131,36 @@ Apart m a b r = (a < (field m r).low → b ≤ (field m r).low) × (a < (field m
 
 module _ (m : ℕ) (T : List Numbered) where
   -- the ends are the first cut, or after it
-  pub fenced : (a : ℕ) (cs : List ℕ) → All (Ended m (a ∷ cs)) T → All (Fenced m a cs) T
+  pub fenced : (a : ℕ) (cs : List ℕ) → AllByRecursion (Ended m (a ∷ cs)) T → AllByRecursion (Fenced m a cs) T
   fenced a cs e = All-weaker (Ended m (a ∷ cs)) (Fenced m a cs) (λ r i. (first_cut _ a cs i.0, first_cut _ a cs i.1)) T e
 
   -- the same after the next cut
-  pub fenced_more : (a b : ℕ) (cs : List ℕ) → a < b → All (Fenced m a (b ∷ cs)) T → All (Fenced m b cs) T
+  pub fenced_more : (a b : ℕ) (cs : List ℕ) → a < b → AllByRecursion (Fenced m a (b ∷ cs)) T → AllByRecursion (Fenced m b cs) T
   fenced_more a b cs k e =
       All-weaker (Fenced m a (b ∷ cs)) (Fenced m b cs) (λ r i. (cut_more _ a b cs k i.0, cut_more _ a b cs k i.1)) T e
 
   -- no end lies between two neighbouring cuts
-  pub apart : (a b : ℕ) (cs : List ℕ) → Up b (b ∷ cs) → All (Fenced m a (b ∷ cs)) T → All (Apart m a b) T
+  pub apart : (a b : ℕ) (cs : List ℕ) → Up b (b ∷ cs) → AllByRecursion (Fenced m a (b ∷ cs)) T → AllByRecursion (Apart m a b) T
   apart a b cs u e =
       All-weaker (Fenced m a (b ∷ cs)) (Apart m a b) (λ r i. (cut_out _ a b cs u i.0, cut_out _ a b cs u i.1)) T e
 
   -- between two cuts the same rules hold each number
-  held_same : (a b x : ℕ) → a ≤ x → x < b → All (Apart m a b) T → held m x T ≡ held m a T
+  held_same : (a b x : ℕ) → a ≤ x → x < b → AllByRecursion (Apart m a b) T → held m x T ≡ held m a T
   held_same a b x k l e =
       kept_same _ _ T (All-weaker (Apart m a b) (λ r. holds (field m r) x ≡ holds (field m r) a) (λ r i. grind (arith, nat_tests)) T e)
 
   -- no rule holds x
-  none_held : (x : ℕ) (P : Numbered → Type 0) → ((r : Numbered) → P r → holds (field m r) x ≡ false) → All P T → passes m T x ≡ false
+  none_held : (x : ℕ) (P : Numbered → Type 0) → ((r : Numbered) → P r → holds (field m r) x ≡ false) → AllByRecursion P T → passes m T x ≡ false
   none_held x P out e = ap some (kept_none _ T (All-weaker P (λ r. holds (field m r) x ≡ false) out T e))
 
   -- no rule holds what is below the first cut
-  pub low : (cs : List ℕ) → All (Ended m cs) T → Low (passes m T) cs
+  pub low : (cs : List ℕ) → AllByRecursion (Ended m cs) T → Low (passes m T) cs
   low cs e x lo k u = none_held x (Ended m cs) (λ r i. let q = up_in lo _ cs u i.0 in grind (arith, nat_tests)) e
 
 -- The test and what is below do not change within a run.
 module _ (m : ℕ) (T : List Numbered) (G : List Numbered → Shape) where
   -- from any cut on
-  level_from : (a : ℕ) (cs : List ℕ) → Up a (a ∷ cs) → All (Fenced m a cs) T → Level (passes m T) (beneath m T G) (a ∷ cs)
+  level_from : (a : ℕ) (cs : List ℕ) → Up a (a ∷ cs) → AllByRecursion (Fenced m a cs) T → Level (passes m T) (beneath m T G) (a ∷ cs)
   level_from a [] u e = λ x k. none_held m T x (Fenced m a []) (λ r i. ⊎_elim (λ q. grind (arith, nat_tests)) absurd i.1) e
   level_from a (b ∷ cs) u e =
       let up : Up b (b ∷ cs) = (omega arith, u.1.1) in (
@@ -169,7 +169,7 @@ module _ (m : ℕ) (T : List Numbered) (G : List Numbered → Shape) where
       )
 
   -- from the first one on
-  pub level : (cs : List ℕ) → Up 0 cs → All (Ended m cs) T → Level (passes m T) (beneath m T G) cs
+  pub level : (cs : List ℕ) → Up 0 cs → AllByRecursion (Ended m cs) T → Level (passes m T) (beneath m T G) cs
   level [] u e = tt
   level (a ∷ cs) u e = level_from a cs (omega arith, u.1) (fenced m T a cs e)
 
@@ -188,7 +188,7 @@ Sound_at m r = Sound (field m r)
 
 -- at a cut some rule starts, or one has just ended
 near :
-    (m : ℕ) (T : List Numbered) → All (Sound_at m) T → (c : ℕ) → In c (cuts_of m T)
+    (m : ℕ) (T : List Numbered) → AllByRecursion (Sound_at m) T → (c : ℕ) → In c (cuts_of m T)
     → (passes m T c ≡ true) ⊎ (passes m T (c - 1) ≡ true)
 near m [] w c i = absurd i
 near m (r ∷ T) w c i =
@@ -202,7 +202,7 @@ near m (r ∷ T) w c i =
     (put_only c l (put (h + 1) (cuts_of m T)) i)
 
 -- no cut is past the number after the last one
-few : (m : ℕ) (T : List Numbered) → All (Sound_at m) T → (c : ℕ) → In c (cuts_of m T) → c ≤ 0x1_0000_0000
+few : (m : ℕ) (T : List Numbered) → AllByRecursion (Sound_at m) T → (c : ℕ) → In c (cuts_of m T) → c ≤ 0x1_0000_0000
 few m [] w c i = absurd i
 few m (r ∷ T) w c i =
     let s = w.0 in
@@ -213,7 +213,7 @@ few m (r ∷ T) w c i =
 module _ (m : ℕ) (T : List Numbered) (G : List Numbered → Shape) (l h : ℕ) (f : Shape → Shape) where
   -- a node of the canonical tree
   node :
-      (l ≤ h) × (h ≤ 0xffff_ffff) → All (Sound_at m) T → G [] ≡ bare
+      (l ≤ h) × (h ≤ 0xffff_ffff) → AllByRecursion (Sound_at m) T → G [] ≡ bare
       → under l h f (ready l h (runs (passes m T) (beneath m T G) (cuts_of m T)))
       ≡ runs (filled (passes m T) l h) (deeper (beneath m T G) l h f) (put (h + 1) (put l (cuts_of m T)))
   node lh w none =
@@ -254,7 +254,7 @@ held_push m x T r = filter-append (λ r. holds (field m r) x) T (r ∷ [])
 
 -- One rule more makes the tree the tree of one rule more.
 pub insert_canon :
-    (d k m : ℕ) (r : Numbered) (T : List Numbered) → m + k ≡ d → Whole d r → All (Whole d) T
+    (d k m : ℕ) (r : Numbered) (T : List Numbered) → m + k ≡ d → Whole d r → AllByRecursion (Whole d) T
     → insert (take k (drop m (ends r))) (number r) (canon k m T) ≡ canon k m (T ++ r ∷ [])
 insert_canon d zero m r T e w ws = cell_push T r
 insert_canon d (suc k) m r T e w ws =

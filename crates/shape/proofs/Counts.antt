@@ -1,6 +1,6 @@
 -- The branches and marks of the tree that the cuts tell. Assumes nothing.
 use Rattle.std.proofs.Common.{◌≡◌, ℕ, zero, suc, ◌+◌, ◌-◌, ◌<◌, Bool, true, false, cond, ◌&&◌, leb, List, [], ◌∷◌, map, length, filter, sym, refl, ap, ◌∙◌, ap₂, arith}
-use Rattle.std.specs.List.{AllByRecursion as All}
+use Rattle.std.specs.List.{AllByRecursion}
 use Rattle.std.proofs.ByRecursion.{All-weaker}
 use Rattle.std.proofs.lemmas.Bool.Decides.{nat_tests}
 use Rattle.routing.specs.declared.ends.Ends.{Ends}
@@ -25,7 +25,7 @@ kept_map q (r ∷ T) =
 module _ (m : ℕ) (T : List Numbered) (F : List (List Ends) → ℕ) where
   -- from any cut on
   over_from :
-      (a : ℕ) (cs : List ℕ) → Up a (a ∷ cs) → All (Fenced m a cs) T
+      (a : ℕ) (cs : List ℕ) → Up a (a ∷ cs) → AllByRecursion (Fenced m a cs) T
       → over (λ a b. F (map ends (held m a T))) (a ∷ cs) ≡ over (λ a b. F (holding m a b (map ends T))) (a ∷ cs)
   over_from a [] u e = refl
   over_from a (b ∷ cs) u e =
@@ -38,7 +38,7 @@ module _ (m : ℕ) (T : List Numbered) (F : List (List Ends) → ℕ) where
 
   -- a sum over runs is the sum over pieces
   over_same :
-      (cs : List ℕ) → Up 0 cs → All (Ended m cs) T
+      (cs : List ℕ) → Up 0 cs → AllByRecursion (Ended m cs) T
       → over (λ a b. F (map ends (held m a T))) cs ≡ over (λ a b. F (holding m a b (map ends T))) cs
   over_same [] u e = refl
   over_same (a ∷ cs) u e = over_from a cs (omega arith, u.1) (fenced m T a cs e)

@@ -1,6 +1,6 @@
 -- Each message that a rule matches lies in a cell within the rule's intervals. Assumes nothing.
 use Rattle.std.proofs.Common.{◌≡◌, ℕ, suc, ◌+◌, ◌-◌, ◌<◌, ◌≤◌, Bool, true, false, cond, List, [], ◌∷◌, ◌++◌, map, length, take, drop, sym, refl, ap, ◌∙◌, subst, ⊎_elim, arith, drop-cons}
-use Rattle.std.specs.List.{ContainsAt as Has, AllByRecursion as All}
+use Rattle.std.specs.List.{ContainsAt as Has, AllByRecursion}
 use Rattle.std.proofs.lemmas.List.{length-map, get_or-map}
 use Rattle.std.proofs.lemmas.List.Elements.{filter-append}
 use Rattle.std.proofs.ByRecursion.{has_push, has_append_left, has_append_right}
@@ -86,7 +86,7 @@ some_mid [] r B = refl
 some_mid (s ∷ A) r B = refl
 
 -- what holds of all holds of one among them
-all_mid : {X : Type 0} (P : X → Type 0) (A : List X) (r : X) (B : List X) → All P (A ++ r ∷ B) → P r
+all_mid : {X : Type 0} (P : X → Type 0) (A : List X) (r : X) (B : List X) → AllByRecursion P (A ++ r ∷ B) → P r
 all_mid P [] r B w = w.0
 all_mid P (s ∷ A) r B w = all_mid P A r B w.1
 

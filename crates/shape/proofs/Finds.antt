@@ -1,6 +1,6 @@
 -- What a message reaches. Assumes nothing.
 use Rattle.std.proofs.Common.{◌≡◌, ℕ, zero, suc, ◌+◌, ◌-◌, ◌<◌, ◌≤◌, Bool, true, false, cond, ◌&&◌, leb, List, [], ◌∷◌, map, length, take, drop, Some, None, filter, Option, sym, refl, ap, ◌∙◌, ⊎_elim, arith, drop-cons, MatchOption}
-use Rattle.std.specs.List.{AllByRecursion as All}
+use Rattle.std.specs.List.{AllByRecursion}
 use Rattle.std.proofs.ByRecursion.{All-weaker, all_kept_by}
 use Rattle.std.proofs.lemmas.Bool.{cond-true, cond-false, cond_both, cases_lt, true≢false}
 use Rattle.std.proofs.lemmas.Bool.Decides.{nat_tests}
@@ -84,7 +84,7 @@ found_less (Some c) L H T t f = (f.0, λ _. f.1 t)
 
 -- The cell that values reach in the tree of rules is that of the rules that match.
 found_canon :
-    (d k m : ℕ) (vs : List ℕ) (T : List Numbered) → m + k ≡ d → k ≤ length vs → All (Whole d) T
+    (d k m : ℕ) (vs : List ℕ) (T : List Numbered) → m + k ≡ d → k ≤ length vs → AllByRecursion (Whole d) T
     → Found (reached (take k vs) (canon k m T)) (filter (meant k m vs) T) T
 found_canon d zero m vs T e l w =
     let all = sym (kept_all T) in (ap cell all, λ t. rw (kept_all T) t)
@@ -135,7 +135,7 @@ read (Some c) L T M e f = (ap marks_in f.0 ∙ marks_cell L ∙ e, λ t q. marke
 
 -- The cell that a message reaches has the marks of the rules that match, and has one where there is a rule.
 pub look_up :
-    (d : ℕ) (T : List (List Ends)) → All (Proper d) T → (v : List ℕ) → d ≤ length v
+    (d : ℕ) (T : List (List Ends)) → AllByRecursion (Proper d) T → (v : List ℕ) → d ≤ length v
     → MatchOption (reached (take d v) (grown d T)) (matching d 1 T v ≡ [])
     (λ c. (marks_in c ≡ matching d 1 T v) × (some (numbered 1 T) ≡ true → marks_in c ≡ [] → ⊥))
 look_up d T ok v l =

@@ -1,6 +1,6 @@
 -- The grown tree is the tree that the cuts tell. Assumes nothing.
 use Rattle.std.proofs.Common.{◌≡◌, ℕ, suc, ◌+◌, ◌<◌, List, [], ◌∷◌, ◌++◌, length, take, sym, ap, ◌∙◌, arith}
-use Rattle.std.specs.List.{AllByRecursion as All}
+use Rattle.std.specs.List.{AllByRecursion}
 use Rattle.std.proofs.lemmas.List.{append-nil, append_assoc, length-take-le, get_or-take}
 use Rattle.std.proofs.ByRecursion.{All-push, All-get_or}
 use Rattle.routing.specs.declared.ends.Ends.{Ends}
@@ -21,13 +21,13 @@ whole d n r ok m l =
     (omega (arith, ok.0), rw get_or-take at (All-get_or Sound (take d r) m none far ok.1))
 
 -- and so have they all, with their numbers
-pub all_whole : (d n : ℕ) (T : List (List Ends)) → All (Proper d) T → All (Whole d) (numbered n T)
+pub all_whole : (d n : ℕ) (T : List (List Ends)) → AllByRecursion (Proper d) T → AllByRecursion (Whole d) (numbered n T)
 all_whole d n [] ok = tt
 all_whole d n (r ∷ T) ok = (whole d n r ok.0, all_whole d (suc n) T ok.1)
 
 -- rules grown into the tree of rules before them
 from_canon :
-    (d n : ℕ) (T : List (List Ends)) (U : List Numbered) → All (Proper d) T → All (Whole d) U
+    (d n : ℕ) (T : List (List Ends)) (U : List Numbered) → AllByRecursion (Proper d) T → AllByRecursion (Whole d) U
     → grown_from d n T (canon d 0 U) ≡ canon d 0 (U ++ numbered n T)
 from_canon d n [] U ok w = ap (canon d 0) (sym (append-nil U))
 from_canon d n (r ∷ T) U ok w =
@@ -37,7 +37,7 @@ from_canon d n (r ∷ T) U ok w =
     ∙ ap (canon d 0) (append_assoc U ((n, r) ∷ []) (numbered (suc n) T))
 
 -- The grown tree is that of its rules.
-pub grown_canon : (d : ℕ) (T : List (List Ends)) → All (Proper d) T → grown d T ≡ canon d 0 (numbered 1 T)
+pub grown_canon : (d : ℕ) (T : List (List Ends)) → AllByRecursion (Proper d) T → grown d T ≡ canon d 0 (numbered 1 T)
 grown_canon d T ok = ap (grown_from d 1 T) (sym (canon_none d 0)) ∙ from_canon d 1 T [] ok tt
 
 -- one rule more, from any number on

@@ -1,6 +1,6 @@
 -- The cells that a walk meets, in its order. Assumes nothing.
 use Rattle.std.proofs.Common.{◌≡◌, ℕ, suc, ◌+◌, ◌<◌, ◌≤◌, true, false, cond, List, [], ◌∷◌, ◌++◌, map, length, Some, None, Option, sym, refl, ap, ◌∙◌, subst, ap₂, inl, inr, arith, MatchOption}
-use Rattle.std.specs.List.{AllZip, AllByRecursion as All}
+use Rattle.std.specs.List.{AllZip, AllByRecursion}
 use Rattle.std.proofs.lemmas.List.{append_assoc, map-append, length-map, take_all}
 use Rattle.std.proofs.ByRecursion.{All-append, All-map, All-weaker}
 use Rattle.std.proofs.lemmas.Bool.{cond_both, and_parts, and_from, le-leb, leb-true}
@@ -51,7 +51,7 @@ from_less lo hi (e ∷ es) l f = omega arith
 -- what is seen of a cell from a node: its messages reach its marks
 record Seen (es : List Ends) (lo : ℕ) (sh : Shape) (c : Cell) : Type 0 where
   long : length c.box ≡ length es
-  upward : All Upward c.box
+  upward : AllByRecursion Upward c.box
   inside : AllZip Inside es c.box
   from : From lo c.box
   reaches : (v : List ℕ) → length v ≡ length es → matches (length es) c.box v ≡ true → MatchOption (reached v sh) ⊥ (λ l. marks_in l ≡ c.marks)
@@ -105,20 +105,20 @@ module _ (e : Ends) (es : List Ends) (lo a b : ℕ) (below rest : Shape) (k : lo
           subst (λ o. MatchOption (onward (reached v) o) ⊥ (λ l. marks_in l ≡ c.marks)) (sym (past x a b below rest (λ _. omega arith))) r
 
 -- The walk sees every cell.
-all_seen : (es : List Ends) (lo : ℕ) (sh : Shape) → Tidy (length es) lo sh → All (Seen es lo sh) (cells es [] sh)
+all_seen : (es : List Ends) (lo : ℕ) (sh : Shape) → Tidy (length es) lo sh → AllByRecursion (Seen es lo sh) (cells es [] sh)
 all_seen [] lo sh t = (seen_here lo sh, tt)
 all_seen (e ∷ es) lo bare t = tt
 all_seen (e ∷ es) lo (part (rule i) below rest) t = absurd t
 all_seen (e ∷ es) lo (part (piece a b) below rest) t =
     let S = Seen (e ∷ es) lo (part (piece a b) below rest) in
     All-append S _ _
-    (below_branch (All S) e es a b below
+    (below_branch (AllByRecursion S) e es a b below
     (λ i. All-map S _ _ (All-weaker (Seen es 0 below) _ (λ c s. seen_below e es lo a b below rest t.0 t.1 c i s) _ (all_seen es 0 below t.2))) tt)
     (All-weaker (Seen (e ∷ es) (b + 1) rest) S (λ c s. seen_rest e es lo a b below rest t.0 t.1 c s) _ (all_seen (e ∷ es) (b + 1) rest t.3))
 
 -- one list of cells after another
 ascending_append :
-    (xs ys : List Cell) → Ascending xs → Ascending ys → All (λ x. All (λ y. Before (corner x) (corner y)) ys) xs → Ascending (xs ++ ys)
+    (xs ys : List Cell) → Ascending xs → Ascending ys → AllByRecursion (λ x. AllByRecursion (λ y. Before (corner x) (corner y)) ys) xs → Ascending (xs ++ ys)
 ascending_append [] ys p q r = q
 ascending_append (x ∷ xs) ys p q r = (All-append _ xs ys p.0 r.0, ascending_append xs ys p.1 q r.1)
 
@@ -140,18 +140,18 @@ ascends (e ∷ es) lo bare t = tt
 ascends (e ∷ es) lo (part (rule i) below rest) t = absurd t
 ascends (e ∷ es) lo (part (piece a b) below rest) t =
     let Y = cells (e ∷ es) [] rest in
-    let P : Cell → Type 0 = λ x. All (λ y. Before (corner x) (corner y)) Y in
+    let P : Cell → Type 0 = λ x. AllByRecursion (λ y. Before (corner x) (corner y)) Y in
     let up = t.1 in
     ascending_append _ Y
     (below_branch Ascending e es a b below (λ _. ascending_behind (box_of (piece a b)) (cells es [] below) (ascends es 0 below t.2)) tt)
     (ascends (e ∷ es) (b + 1) rest t.3)
-    (below_branch (All P) e es a b below
+    (below_branch (AllByRecursion P) e es a b below
     (λ _. All-map P _ _ (All-weaker (Seen es 0 below) _
     (λ c _. All-weaker (Seen (e ∷ es) (b + 1) rest) _ (λ y s. before_from a (b + 1) (corner c) y.box (omega arith) s.from (omega (arith, s.long))) Y (all_seen (e ∷ es) (b + 1) rest t.3))
     _ (all_seen es 0 below t.2))) tt)
 
 -- the smallest message of a cell lies in it
-corner_in : (es : List Ends) → All Upward es → matches (length es) es (map (λ e. e.low) es) ≡ true
+corner_in : (es : List Ends) → AllByRecursion Upward es → matches (length es) es (map (λ e. e.low) es) ≡ true
 corner_in [] u = refl
 corner_in (e ∷ es) u =
     and_from _ _ (and_from _ _ (le-leb _ _ (omega arith)) (le-leb _ _ u.0)) (corner_in es u.1)
@@ -165,7 +165,7 @@ meet (Some l) ms P Q f g = subst Q f g
 
 -- a cell that is seen in the tree of rules, of which there is one, is right
 right :
-    (d : ℕ) (r : List Ends) (T : List (List Ends)) → All (Proper d) (r ∷ T) → (es : List Ends) → length es ≡ d
+    (d : ℕ) (r : List Ends) (T : List (List Ends)) → AllByRecursion (Proper d) (r ∷ T) → (es : List Ends) → length es ≡ d
     → (c : Cell) → Seen es 0 (grown d (r ∷ T)) c → Right d (r ∷ T) es c
 right d r T ok es e c s =
     record {

@@ -1,6 +1,6 @@
 -- What the tree of a list of rules says. Assumes nothing.
 use Rattle.std.specs.Prelude.{◌≡◌, ℕ, zero, suc, ◌+◌, ◌<◌, ◌≤◌, Bool, true, false, cond, ◌&&◌, ◌⊎◌, List, [], ◌∷◌, ◌++◌, map, length, take, Some, None, Option, MatchOption, nat_le}
-use Rattle.std.specs.List.{AllZip, ContainsAt as Has, AllByRecursion as All}
+use Rattle.std.specs.List.{AllZip, ContainsAt as Has, AllByRecursion}
 use Rattle.routing.specs.declared.ends.Ends.{Ends}
 use Rattle.routing.specs.Rules.{matches, matching}
 use Rattle.routing.specs.Space.{branches, marks}
@@ -16,7 +16,7 @@ Sound e = Upward e × (e.high ≤ 0xffff_ffff)
 
 -- the ends of a rule of d fields; what stands past them is not looked at
 abbrev pub Proper : ℕ → List Ends → Type 0
-Proper d r = (d ≤ length r) × All Sound (take d r)
+Proper d r = (d ≤ length r) × AllByRecursion Sound (take d r)
 
 -- In a node with d fields left there are branches, which run upward from `lo` and do not overlap; with none
 -- left it is a cell, with marks, which ascend from `lo`.
@@ -84,7 +84,7 @@ Before (v ∷ vs) (w ∷ ws) = (v < w) ⊎ ((v ≡ w) × Before vs ws)
 -- each cell's smallest message comes before those of the cells after it
 abbrev pub Ascending : List Cell → Type 0
 Ascending [] = Unit {0}
-Ascending (c ∷ cs) = All (λ later. Before (corner c) (corner later)) cs × Ascending cs
+Ascending (c ∷ cs) = AllByRecursion (λ later. Before (corner c) (corner later)) cs × Ascending cs
 
 -- all of f lies in e
 abbrev pub Inside : Ends → Ends → Type 0
@@ -94,7 +94,7 @@ Inside e f = (e.low ≤ f.low) × (f.high ≤ e.high)
 -- them empty, some marks, and these are the rules that match each of its messages
 pub record Right (d : ℕ) (T : List (List Ends)) (es : List Ends) (c : Cell) : Type 0 where
   pub long : length c.box ≡ d
-  pub upward : All Upward c.box
+  pub upward : AllByRecursion Upward c.box
   pub inside : AllZip Inside es c.box
   pub marked : c.marks ≡ [] → ⊥
   pub told : (v : List ℕ) → length v ≡ d → matches d c.box v ≡ true → c.marks ≡ matching d 1 T v
@@ -107,29 +107,29 @@ GrownMore =
 -- The tree has the branches and the marks that the rules need.
 abbrev pub SpaceIsExact : Type 0
 SpaceIsExact =
-    (d : ℕ) (T : List (List Ends)) → All (Proper d) T
+    (d : ℕ) (T : List (List Ends)) → AllByRecursion (Proper d) T
     → (branches_of (grown d T) ≡ branches d 0 T) × (marks_of (grown d T) ≡ marks d 0 T)
 
 -- Branches run upward and apart, and marks ascend.
 abbrev pub OrderIsKept : Type 0
-OrderIsKept = (d : ℕ) (T : List (List Ends)) → All (Proper d) T → Tidy d 0 (grown d T)
+OrderIsKept = (d : ℕ) (T : List (List Ends)) → AllByRecursion (Proper d) T → Tidy d 0 (grown d T)
 
 -- The cell that a message reaches has the numbers of the rules that match it; one that reaches no cell
 -- matches no rule.
 abbrev pub LookUpIsRight : Type 0
 LookUpIsRight =
-    (d : ℕ) (T : List (List Ends)) → All (Proper d) T → (v : List ℕ) → d ≤ length v
+    (d : ℕ) (T : List (List Ends)) → AllByRecursion (Proper d) T → (v : List ℕ) → d ≤ length v
     → MatchOption (reached (take d v) (grown d T)) (matching d 1 T v ≡ []) (λ c. marks_in c ≡ matching d 1 T v)
 
 -- The cells within given intervals are right, each of them, and come in the order of their smallest messages.
 abbrev pub CellsAreRight : Type 0
 CellsAreRight =
-    (d : ℕ) (T : List (List Ends)) → 1 ≤ d → All (Proper d) T → (es : List Ends) → length es ≡ d
-    → All (Right d T es) (cells es [] (grown d T)) × Ascending (cells es [] (grown d T))
+    (d : ℕ) (T : List (List Ends)) → 1 ≤ d → AllByRecursion (Proper d) T → (es : List Ends) → length es ≡ d
+    → AllByRecursion (Right d T es) (cells es [] (grown d T)) × Ascending (cells es [] (grown d T))
 
 -- Each message that a rule matches lies in a cell within the rule's intervals.
 abbrev pub CellsCover : Type 0
 CellsCover =
-    (d : ℕ) (A : List (List Ends)) (r : List Ends) (B : List (List Ends)) → All (Proper d) (A ++ r ∷ B)
+    (d : ℕ) (A : List (List Ends)) (r : List Ends) (B : List (List Ends)) → AllByRecursion (Proper d) (A ++ r ∷ B)
     → (v : List ℕ) → length v ≡ d → matches d r v ≡ true
     → (c : Cell) × Has (cells (take d r) [] (grown d (A ++ r ∷ B))) c × (matches d c.box v ≡ true)

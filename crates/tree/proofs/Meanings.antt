@@ -1,7 +1,7 @@
 -- One rule more in a tree that means some rules. Assumes nothing.
 use Rattle.std.proofs.Common.{◌≡◌, ℕ, ◌+◌, ◌<◌, ◌≤◌, min, List, [], ◌∷◌, ◌++◌, length, take, Some, None, sym, ap, ◌∙◌, ap₂, arith}
 use Rattle.std.proofs.ByRecursion.{All-push, All-weaker}
-use Rattle.std.specs.List.{AllByRecursion as All}
+use Rattle.std.specs.List.{AllByRecursion}
 use Rattle.std.proofs.lemmas.Bool.Decides.{nat_tests}
 use Rattle.shape.specs.Shapes.{branches_of, marks_of, insert, grown}
 use Rattle.shape.specs.Meaning.{Upward, Sound, Proper}
@@ -21,7 +21,7 @@ use Rattle.shape.proofs.Orders.{order_kept}
 use Rattle.shape.proofs.Grown.{grown_more_lem}
 
 -- intervals that hold a value run upward
-pub upward : (es : List Ends) → All Sound es → All Upward es
+pub upward : (es : List Ends) → AllByRecursion Sound es → AllByRecursion Upward es
 upward es ok = All-weaker Sound Upward (λ e s. s.0) es ok
 
 -- what lacks, by the space that rules need
@@ -60,7 +60,7 @@ module _
     {x : Tree} {T : List (List Ends)} (m : Meant x T) (e : List Ends) (ok : Proper x.fields e) (es : List Ends) (n : ℕ)
     (first : es ≡ take x.fields e) (next : n ≡ length T + 1) where
   -- the rules with it are all proper
-  all_proper : All (Proper x.fields) (T ++ e ∷ [])
+  all_proper : AllByRecursion (Proper x.fields) (T ++ e ∷ [])
   all_proper = All-push (Proper x.fields) T e m.proper ok
 
   -- the tree with the rule is that of one rule more

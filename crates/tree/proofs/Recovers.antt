@@ -4,7 +4,7 @@ use mathlib.Core.Logic.{∥∥₁_elim}
 use native.Mathlib.Bridge.{le_prop}
 use native.Mathlib.Nat.{ℕ_set}
 use Rattle.std.proofs.lemmas.Bool.{cond-false, ne_eqb}
-use Rattle.std.specs.List.{AllByRecursion as All}
+use Rattle.std.specs.List.{AllByRecursion}
 use Rattle.shape.specs.Shapes.{Label, piece, rule, branches_of, marks_of, Shape, ShapeSet, bare, part, grown}
 use Rattle.shape.specs.Meaning.{Sound, Proper, Tidy}
 use Rattle.tree.specs.Memory.{look, RecSet, label_of, below_of, next_of}
@@ -60,7 +60,7 @@ pub stands_prop : (s : Store) (d : ℕ) (t : Records) → IsProp (Stands s d t)
 stands_prop s d t x y = λ i. record { holds = holds_prop s d t x.holds y.holds i; own = λ k. le_prop (x.own k) (y.own k) i }
 
 -- what holds of each element has one proof
-all_prop : {X : Type 0} (P : X → Type 0) → ((x : X) → IsProp (P x)) → (xs : List X) → IsProp (All P xs)
+all_prop : {X : Type 0} (P : X → Type 0) → ((x : X) → IsProp (P x)) → (xs : List X) → IsProp (AllByRecursion P xs)
 all_prop P p [] a b = refl
 all_prop P p (x ∷ xs) a b = λ i. (p x a.0 b.0 i, all_prop P p xs a.1 b.1 i)
 
@@ -82,7 +82,7 @@ recovered {x} {T} e =
     let d = x.fields in
     let n = s.used + s.marked in
     let u : Records = read_at n s d x.root in
-    let ok : All (Proper d) T = ∥∥₁_elim e (all_prop (Proper d) (proper_prop d) T) (λ m. m.proper) in
+    let ok : AllByRecursion (Proper d) T = ∥∥₁_elim e (all_prop (Proper d) (proper_prop d) T) (λ m. m.proper) in
     let one-tree : IsProp (Stands s d u × (root u ≡ x.root) × (shape u ≡ grown d T)) =
     λ a b i. (stands_prop s d u a.0 b.0 i, ℕ_set _ _ a.1 b.1 i, ShapeSet _ _ a.2 b.2 i) in
     let tree : Stands s d u × (root u ≡ x.root) × (shape u ≡ grown d T) =

@@ -1,6 +1,6 @@
 -- What the calls of a tree ask and promise. Assumes nothing.
 use Rattle.std.specs.Prelude.{◌≡◌, ℕ, ◌+◌, List, [], ◌∷◌, ◌++◌, length, take, Some, None, Result, MatchResult, ◌≢◌}
-use Rattle.std.specs.List.{AllByRecursion as All}
+use Rattle.std.specs.List.{AllByRecursion}
 use Rattle.routing.specs.declared.ends.Ends.{Ends}
 use Rattle.routing.specs.Rules.{matching}
 use Rattle.routing.specs.Space.{branches, marks}
@@ -58,7 +58,7 @@ walked x es T = cells (take x.fields es) [] (grown x.fields T)
 -- its messages, at least one.
 pub record Begins (x : Tree) (es : List Ends) (r : Walk) : Type 0 where
   pub first : (T : List (List Ends)) → Means x T → Reached x.store (take x.fields es) r (walked x es T)
-  pub right : (T : List (List Ends)) → Means x T → All (Right x.fields T (take x.fields es)) (walked x es T) × Ascending (walked x es T)
+  pub right : (T : List (List Ends)) → Means x T → AllByRecursion (Right x.fields T (take x.fields es)) (walked x es T) × Ascending (walked x es T)
 
 -- a walk stands at a cell
 abbrev pub StandsAt : Tree → List Ends → Walk → Type 0

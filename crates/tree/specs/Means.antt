@@ -1,6 +1,6 @@
 -- What the records of a tree mean: some rules. Assumes nothing.
 use Rattle.std.specs.Prelude.{◌≡◌, ℕ, ◌≤◌, min, cond, List, length, Some, None, Option, nat_lt}
-use Rattle.std.specs.List.{AllByRecursion as All}
+use Rattle.std.specs.List.{AllByRecursion}
 use Rattle.routing.specs.declared.ends.Ends.{Ends}
 use Rattle.routing.specs.Space.{branches, marks}
 use Rattle.shape.specs.Shapes.{grown}
@@ -17,7 +17,7 @@ use Rattle.tree.specs.declared.space.Space.{Space}
 -- In every node the branches run upward and do not overlap, and in every cell the marks ascend.
 pub record Meant (x : Tree) (T : List (List Ends)) : Type 0 where
   pub fields : (1 ≤ x.fields) × (x.fields ≤ 8)
-  pub proper : All (Proper x.fields) T
+  pub proper : AllByRecursion (Proper x.fields) T
   pub branches : x.store.used ≡ branches x.fields 0 T
   pub marks : x.store.marked ≡ marks x.fields 0 T
   pub tidy : Tidy x.fields 0 (grown x.fields T)

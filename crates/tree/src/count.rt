@@ -1,7 +1,7 @@
 // The space that a tree takes, and what it would take with one more rule. Nothing is written.
 ghost use Rattle.std.specs.Prelude.{◌≡◌, ℕ, ◌+◌, ◌-◌, ◌<◌, cond, ◌&&◌, length, if◌then◌else◌, nat_le, nat_lt};
 ghost use Rattle.shape.specs.Shapes.{insert};
-ghost use Rattle.std.specs.List.{AllByRecursion as All};
+ghost use Rattle.std.specs.List.{AllByRecursion};
 ghost use Rattle.shape.specs.Meaning.{Upward};
 ghost use Rattle.tree.specs.Links.{Records, shape};
 ghost use Rattle.tree.specs.Reads.{Stood, weight, Weighs};
@@ -70,7 +70,7 @@ impl Store<'_> {
     // What the part of a branch inside an interval takes, with the rest of the rule below.
     #[cycle(inside_space_with)]
     fn inside(&self, left: usize, b: Branch, ends: Ends, rest: &[Ends]) -> Space
-        requires { (((t : Records) × Stood self.now (left - 1) b.below t)) × ((left ≡ length rest.now + 1) × All Upward rest.now) }
+        requires { (((t : Records) × Stood self.now (left - 1) b.below t)) × ((left ≡ length rest.now + 1) × AllByRecursion Upward rest.now) }
         ensures { (t : Records) (i : ℕ) → Stood self.now (left - 1) b.below t → Weighs result (λ p q.
             (if nat_le ends.low b.high && nat_le b.low ends.high then p + weight p q (insert rest.now i (shape t)) else 0)) }
     {
@@ -83,7 +83,7 @@ impl Store<'_> {
     // What the tree at `first` would take with one more rule of these intervals.
     #[cycle(inside_space_with)]
     pub(crate) fn space_with(&self, left: usize, first: u32, rule: &[Ends]) -> Space
-        requires { (((t : Records) × Stood self.now left first t)) × ((left ≡ length rule.now) × All Upward rule.now) }
+        requires { (((t : Records) × Stood self.now left first t)) × ((left ≡ length rule.now) × AllByRecursion Upward rule.now) }
         ensures { (t : Records) (i : ℕ) → Stood self.now left first t → Weighs result (λ p q. weight p q (insert rule.now i (shape t))) }
     {
         if left == 0 {

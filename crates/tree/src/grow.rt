@@ -1,7 +1,7 @@
 // Appending a rule to the records of a tree.
 ghost use Rattle.std.specs.Prelude.{◌≡◌, ℕ, ◌+◌, ◌<◌, ◌≤◌, length, if◌then◌else◌, Some, None, nat_eq};
 ghost use Rattle.shape.specs.Shapes.{cut_at, add_mark, under, cut_above, gaps, ready, insert};
-ghost use Rattle.std.specs.List.{AllByRecursion as All};
+ghost use Rattle.std.specs.List.{AllByRecursion};
 ghost use Rattle.shape.specs.Meaning.{Upward};
 ghost use Rattle.tree.specs.Links.{Records, shape, root, Stands, Can, Does, tail, Gap, Inserted};
 ghost use Rattle.tree.specs.Memory.{live, space};
@@ -178,7 +178,7 @@ impl Store<'_> {
     // Appends the rest of the rule `i`, below each branch of the node at `first` that lies within `ends`.
     #[cycle(append_descend)]
     fn descend(&mut self, left: usize, first: u32, ends: Ends, rest: &[Ends], i: u16)
-        requires { (Can self.old left first (under ends.low ends.high (insert rest.now i))) × ((left ≡ length rest.now + 1) × All Upward rest.now) }
+        requires { (Can self.old left first (under ends.low ends.high (insert rest.now i))) × ((left ≡ length rest.now + 1) × AllByRecursion Upward rest.now) }
         ensures { Does self.old self.new left first first (under ends.low ends.high (insert rest.now i)) }
     {
         let mut at = first;
@@ -205,7 +205,7 @@ impl Store<'_> {
     // Appends the rule `i` with these intervals to the tree at `first`. The answer is where it starts then.
     #[cycle(append_descend)]
     pub(crate) fn append(&mut self, left: usize, first: u32, rule: &[Ends], i: u16) -> u32
-        requires { (Can self.old left first (insert rule.now i)) × ((left ≡ length rule.now) × All Upward rule.now) }
+        requires { (Can self.old left first (insert rule.now i)) × ((left ≡ length rule.now) × AllByRecursion Upward rule.now) }
         ensures { Does self.old self.new left first result (insert rule.now i) }
     {
         if left == 0 {

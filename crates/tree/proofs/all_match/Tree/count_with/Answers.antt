@@ -1,5 +1,5 @@
 use Rattle.std.proofs.Common.{◌+◌, length, sym, refl, ap, ◌∙◌, subst}
-use Rattle.std.specs.List.{AllByRecursion as All}
+use Rattle.std.specs.List.{AllByRecursion}
 use Rattle.std.proofs.lemmas.List.{length-take-le}
 use Rattle.shape.specs.Meaning.{Upward}
 use Rattle.tree.proofs.Recovers.{recovered, stood}
@@ -13,7 +13,7 @@ pub space_with-requires : goal.space_with-requires
 space_with-requires c =
     let m = recovered c.requires.means.1 in
     let is = c.first_of.ensures in
-    ((m.records.0, stood m), (sym (ap length is ∙ length-take-le _ _ c.requires.proper.0), subst (All Upward) (sym is) (upward _ c.requires.proper.1)))
+    ((m.records.0, stood m), (sym (ap length is ∙ length-take-le _ _ c.requires.proper.0), subst (AllByRecursion Upward) (sym is) (upward _ c.requires.proper.1)))
 
 pub returns : goal.returns
 returns c T e =

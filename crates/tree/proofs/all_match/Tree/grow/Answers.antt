@@ -1,5 +1,5 @@
 use Rattle.std.proofs.Common.{◌≡◌, ℕ, ◌+◌, List, [], ◌∷◌, ◌++◌, length, Some, None, Option, sym, refl, ap, ◌∙◌, subst, arith}
-use Rattle.std.specs.List.{AllByRecursion as All}
+use Rattle.std.specs.List.{AllByRecursion}
 use Rattle.std.proofs.lemmas.List.{length-take-le}
 use Rattle.shape.specs.Shapes.{insert}
 use Rattle.shape.specs.Meaning.{Upward}
@@ -25,7 +25,7 @@ append-self-requires c =
     let is = c.first_of.ensures in
     let k = enough x (more T c.args.ends.now) _ _ (c.count_with-need.ensures T e) c.room-room.ensures in (
       (m.records.0, rule_fits m c.args.ends.now c.requires.proper c.first_of.result.now c.args.number is next (k.0 c.if-need-room.false) (k.1 c.if-need-room-2.false)),
-      (sym (ap length is ∙ length-take-le _ _ c.requires.proper.0), subst (All Upward) (sym is) (upward _ c.requires.proper.1)),
+      (sym (ap length is ∙ length-take-le _ _ c.requires.proper.0), subst (AllByRecursion Upward) (sym is) (upward _ c.requires.proper.1)),
     )
 
 pub returns-then-need-room : goal.returns-then-need-room

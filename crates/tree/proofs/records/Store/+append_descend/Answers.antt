@@ -1,5 +1,5 @@
 use Rattle.std.proofs.Common.{ℕ, ◌<◌, List, length, sym, refl, ap, subst, arith}
-use Rattle.std.specs.List.{AllByRecursion as All}
+use Rattle.std.specs.List.{AllByRecursion}
 use Rattle.shape.specs.Shapes.{Shape, under, ready, insert}
 use Rattle.shape.specs.Meaning.{Upward}
 use Rattle.tree.specs.Links.{Records, shape, Fits, Became}
@@ -53,7 +53,7 @@ append-prepare-first-requires t c =
     let ne = c.if-left-eq0.false in
     let pos : 0 < length xs = omega (arith, c.requires.1.0) in
     let J = open_ends _ _ _ xs c.args.i u pos K in
-    ((u, ahead (here xs) (lower xs c.args.i) _ _ _ u (lower_grows xs c.args.i) J), (omega arith, (subst (All Upward) (ends_split xs pos) c.requires.1.1).0))
+    ((u, ahead (here xs) (lower xs c.args.i) _ _ _ u (lower_grows xs c.args.i) J), (omega arith, (subst (AllByRecursion Upward) (ends_split xs pos) c.requires.1.1).0))
 
 pub append-descend-requires : goal.append-descend-requires
 append-descend-requires t c =
@@ -63,7 +63,7 @@ append-descend-requires t c =
     let pos : 0 < length xs = omega (arith, c.requires.1.0) in
     let J = open_ends _ _ _ xs c.args.i u pos K in
     let (v, A) = c.prepare-first.ensures u (ahead (here xs) (lower xs c.args.i) _ _ _ u (lower_grows xs c.args.i) J) in
-    (omega (arith, c.decreases), ((v, onward (here xs) (lower xs c.args.i) _ _ _ _ _ u v J A), (omega (arith, c.requires.1.0, ap length (ends_split xs pos)), (subst (All Upward) (ends_split xs pos) c.requires.1.1).1)))
+    (omega (arith, c.decreases), ((v, onward (here xs) (lower xs c.args.i) _ _ _ _ _ u v J A), (omega (arith, c.requires.1.0, ap length (ends_split xs pos)), (subst (AllByRecursion Upward) (ends_split xs pos) c.requires.1.1).1)))
 
 pub append-returns : goal.append-returns
 append-returns t c u K =

@@ -1,5 +1,5 @@
 use Rattle.std.proofs.Common.{◌+◌, ◌<◌, ◌≤◌, max, ◌&&◌, ltb, leb, length, sym, ap, ◌∙◌, subst, arith, rules}
-use Rattle.std.specs.List.{AllByRecursion as All}
+use Rattle.std.specs.List.{AllByRecursion}
 use Rattle.shape.specs.Shapes.{cut_at, under, cut_above, gaps, insert}
 use Rattle.shape.specs.Meaning.{Upward}
 use Rattle.tree.specs.Links.{none, shape}
@@ -23,7 +23,7 @@ pub space_with-space_with-requires : goal.space_with-space_with-requires
 space_with-space_with-requires t c =
     let xs = c.args.rule.now in
     let pos : 0 < length xs = omega (arith, c.requires.1.0, c.if-left-eq0.false) in
-    (omega (arith, c.decreases, c.if-left-eq0.false), ((none, nothing _ _), (omega (arith, c.requires.1.0, ap length (ends_split xs pos)), (subst (All Upward) (ends_split xs pos) c.requires.1.1).1)))
+    (omega (arith, c.decreases, c.if-left-eq0.false), ((none, nothing _ _), (omega (arith, c.requires.1.0, ap length (ends_split xs pos)), (subst (AllByRecursion Upward) (ends_split xs pos) c.requires.1.1).1)))
 
 pub space_with-loop-at-init : goal.space_with-loop-at-init
 space_with-loop-at-init t c =
@@ -52,7 +52,7 @@ space_with-inside-requires t c =
     let left : 0 < c.args.left = omega (arith, c.if-left-eq0.false) in
     let W = c.loop-at.invariant.0 _ 0 c.requires.0.1 in
     let F = seen_branch W left c.loop-at-test.true c.branch-b.ensures in
-    (omega (arith, c.decreases), ((F.below, below W F), (omega (arith, c.requires.1.0, ap length (ends_split xs pos)), (subst (All Upward) (ends_split xs pos) c.requires.1.1).1)))
+    (omega (arith, c.decreases), ((F.below, below W F), (omega (arith, c.requires.1.0, ap length (ends_split xs pos)), (subst (AllByRecursion Upward) (ends_split xs pos) c.requires.1.1).1)))
 
 pub space_with-loop-at-smaller : goal.space_with-loop-at-smaller
 space_with-loop-at-smaller t c =
@@ -74,7 +74,7 @@ space_with-loop-at-preserved t c =
           let parts = weighs_both (c.outside.ensures F.below (below W F)) (c.inside.ensures F.below i (below W F)) c.plus-parts.ensures in
           let small : c.branch-b.result.high ≤ 0xffff_ffff = search rules in
           after W F _
-          (turned e.low e.high (insert (other_ends xs) i) c.loop-at.want _ _ _ (shape F.below) (shape F.rest) (subst (All Upward) (ends_split xs pos) c.requires.1.1).0 c.loop-at.invariant.1 small (at_record W.stood F).order gap parts c.plus-in-loop-at.ensures c.plus-sum.ensures (c.max-want.ensures ∙ ap (λ n. max c.loop-at.want (n + 1)) c.from.ensures)),
+          (turned e.low e.high (insert (other_ends xs) i) c.loop-at.want _ _ _ (shape F.below) (shape F.rest) (subst (AllByRecursion Upward) (ends_split xs pos) c.requires.1.1).0 c.loop-at.invariant.1 small (at_record W.stood F).order gap parts c.plus-in-loop-at.ensures c.plus-sum.ensures (c.max-want.ensures ∙ ap (λ n. max c.loop-at.want (n + 1)) c.from.ensures)),
       omega (arith, c.loop-at.invariant.1, c.max-want.ensures),
     )
 
