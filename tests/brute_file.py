@@ -2,7 +2,7 @@
 """Runs the program `report` on thousands of table files, lawful and damaged, and compares its exit status and its
 whole standard output with what this script works out by itself from docs/FORMAT.md and docs/REFUSALS.md.
 
-    brute_file.py [PROGRAM] [CASES] [RUN]      defaults: target/bin/report 2000 1
+    brute_file.py [PROGRAM] [CASES] [RUN]      defaults: crates/report/out/report 2000 1
     brute_file.py --selftest [CASES] [RUN]     checks this script alone, without the program
 
 The same RUN gives the same files."""
@@ -173,10 +173,6 @@ def case(r):
     return bytes([1, r.randint(0, 9), r.randint(0, 3), 0, 0, r.randrange(4), 0, 0]) + r.randbytes(r.randint(0, 40))
 
 
-# what report says of the tree is for brute_tree.py to judge
-TREE = b"tree: ", b"low corner of rule "
-
-
 # the two ways to run
 def summary(verdicts):
     counts = Counter(v[0] for v in verdicts if v)
@@ -214,8 +210,7 @@ def against(program, cases, run):
     execute = lambda data: subprocess.run([program], input=data, capture_output=True, timeout=120)
     with ThreadPoolExecutor(os.cpu_count() or 4) as pool:
         for k, (data, (_, status, output), got) in enumerate(zip(files, owed, pool.map(execute, files))):
-            came = b"".join(line for line in got.stdout.splitlines(True) if not line.startswith(TREE))
-            if (got.returncode, came) != (status, output):
+            if (got.returncode, got.stdout) != (status, output):
                 print(f"file {k} of run {run} disagreed, {len(data)} bytes:\n{data.hex()}")
                 print(f"expected: status {status}, output {output!r}")
                 print(f"got:      status {got.returncode}, output {got.stdout!r}, errors {got.stderr!r}")
@@ -229,5 +224,5 @@ if __name__ == "__main__":
     if "--selftest" in sys.argv:
         selftest(*(int(w) for w in (words + ["2000", "1"][len(words):])[:2]))
     else:
-        words += ["target/bin/report", "2000", "1"][len(words):]
+        words += ["crates/report/out/report", "2000", "1"][len(words):]
         against(words[0], int(words[1]), int(words[2]))
