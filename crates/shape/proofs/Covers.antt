@@ -1,6 +1,6 @@
 -- Each message that a rule matches lies in a cell within the rule's intervals. Assumes nothing.
 use Rattle.std.proofs.Common.{◌≡◌, ℕ, suc, ◌+◌, ◌-◌, ◌<◌, ◌≤◌, Bool, true, false, cond, List, [], ◌∷◌, ◌++◌, map, length, take, drop, sym, refl, ap, ◌∙◌, subst, ⊎_elim, arith, drop-cons}
-use Rattle.std.specs.List.{ContainsAt as Has, AllByRecursion}
+use Rattle.std.specs.List.{ContainsAt, AllByRecursion}
 use Rattle.std.proofs.lemmas.List.{length-map, get_or-map}
 use Rattle.std.proofs.lemmas.List.Elements.{filter-append}
 use Rattle.std.proofs.ByRecursion.{has_push, has_append_left, has_append_right}
@@ -17,10 +17,10 @@ use Rattle.shape.proofs.Walks.{behind, cells_behind}
 
 -- some cell within es has the message in its box
 abbrev Covered : (es : List Ends) (v : List ℕ) → Shape → Type 0
-Covered es v sh = (c : Cell) × Has (cells es [] sh) c × (matches (length v) c.box v ≡ true)
+Covered es v sh = (c : Cell) × ContainsAt (cells es [] sh) c × (matches (length v) c.box v ≡ true)
 
 -- a list has f of what another has
-has_map : {X Y : Type 0} (f : X → Y) (xs : List X) (x : X) → Has xs x → Has (map f xs) (f x)
+has_map : {X Y : Type 0} (f : X → Y) (xs : List X) (x : X) → ContainsAt xs x → ContainsAt (map f xs) (f x)
 has_map f xs x h =
     (h.0, omega (arith, h.1, length-map xs f), λ d. get_or-map f xs h.0 x d h.1 ∙ ap f (h.2 x))
 
@@ -33,7 +33,7 @@ covered_here f es a b v vs below rest l h p q c =
     let inside : within f (piece a b) ≡ true = and_from _ _ (le-leb _ a l) (le-leb b _ h) in
     let same = cond-true (within f (piece a b)) (cells es pre below) [] inside ∙ cells_behind es pre [] below in (
       behind pre c.0,
-      has_append_left _ _ _ (subst (λ L. Has L (behind pre c.0)) (sym same) (has_map (behind pre) (cells es [] below) c.0 c.1)),
+      has_append_left _ _ _ (subst (λ L. ContainsAt L (behind pre c.0)) (sym same) (has_map (behind pre) (cells es [] below) c.0 c.1)),
       and_from _ _ (and_from _ _ (le-leb a v p) (le-leb v b q)) c.2,
     )
 

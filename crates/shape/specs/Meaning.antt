@@ -1,6 +1,6 @@
 -- What the tree of a list of rules says. Assumes nothing.
 use Rattle.std.specs.Prelude.{◌≡◌, ℕ, zero, suc, ◌+◌, ◌<◌, ◌≤◌, Bool, true, false, cond, ◌&&◌, ◌⊎◌, List, [], ◌∷◌, ◌++◌, map, length, take, Some, None, Option, MatchOption, nat_le}
-use Rattle.std.specs.List.{AllZip, ContainsAt as Has, AllByRecursion}
+use Rattle.std.specs.List.{AllZip, ContainsAt, AllByRecursion}
 use Rattle.routing.specs.declared.ends.Ends.{Ends}
 use Rattle.routing.specs.Rules.{matches, matching}
 use Rattle.routing.specs.Space.{branches, marks}
@@ -132,4 +132,4 @@ abbrev pub CellsCover : Type 0
 CellsCover =
     (d : ℕ) (A : List (List Ends)) (r : List Ends) (B : List (List Ends)) → AllByRecursion (Proper d) (A ++ r ∷ B)
     → (v : List ℕ) → length v ≡ d → matches d r v ≡ true
-    → (c : Cell) × Has (cells (take d r) [] (grown d (A ++ r ∷ B))) c × (matches d c.box v ≡ true)
+    → (c : Cell) × ContainsAt (cells (take d r) [] (grown d (A ++ r ∷ B))) c × (matches d c.box v ≡ true)

@@ -65,6 +65,6 @@ abbrev pub StandsAt : Tree → List Ends → Walk → Type 0
 StandsAt x es w = (c : Cell) × ((cs : List Cell) × Reached x.store (take x.fields es) w (c ∷ cs))
 
 -- it goes on to the next one
-abbrev pub Goes_on : Tree → List Ends → (w r : Walk) → Type 0
-Goes_on x es w r =
+abbrev pub GoesOn : Tree → List Ends → (w r : Walk) → Type 0
+GoesOn x es w r =
     (c : Cell) (cs : List Cell) → Reached x.store (take x.fields es) w (c ∷ cs) → Reached x.store (take x.fields es) r cs

@@ -139,7 +139,7 @@ fn print_tree<K: Kind>(
 }
 
 // Grows the tree of a file's rules in memory of its own, and prints what it says.
-pub fn print_space<K: Kind>(
+pub(crate) fn print_space<K: Kind>(
     rt: &HostRuntime,
     widths: Widths,
     file: TableFile<'_, K>,

@@ -3,7 +3,7 @@ ghost use Rattle.std.specs.Prelude.{◌≡◌, [], length};
 ghost use Rattle.routing.specs.Fields.{widths_of};
 ghost use Rattle.shape.specs.Meaning.{Proper};
 ghost use Rattle.tree.specs.Means.{Means, room_of};
-ghost use Rattle.tree.specs.Calls.{SomeRules, Next, Uses, NeedsWith, Appends, LooksUp, Marked, Reads, Begins, StandsAt, Goes_on};
+ghost use Rattle.tree.specs.Calls.{SomeRules, Next, Uses, NeedsWith, Appends, LooksUp, Marked, Reads, Begins, StandsAt, GoesOn};
 
 use super::parts::empty;
 use super::{Lack, Tree};
@@ -94,7 +94,7 @@ impl<'a> Tree<'a> {
     pub fn next_cell(&self, within: &[Ends; 8], walk: Walk) -> Walk
         requires means { SomeRules self.now }
         requires walk { StandsAt self.now within.now walk }
-        ensures { Goes_on self.now within.now walk result }
+        ensures { GoesOn self.now within.now walk result }
     {
         self.go_on(within, walk)
     }

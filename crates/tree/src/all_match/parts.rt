@@ -2,7 +2,7 @@
 ghost use Rattle.std.specs.Prelude.{◌≡◌, ◌≤◌, [], take};
 ghost use Rattle.shape.specs.Meaning.{Proper};
 ghost use Rattle.tree.specs.Means.{Means};
-ghost use Rattle.tree.specs.Calls.{SomeRules, Next, Uses, NeedsWith, Appends, LooksUp, Marked, Reads, Begins, StandsAt, Goes_on};
+ghost use Rattle.tree.specs.Calls.{SomeRules, Next, Uses, NeedsWith, Appends, LooksUp, Marked, Reads, Begins, StandsAt, GoesOn};
 
 use super::{Lack, Tree};
 use crate::records::{Branch, Mark, NONE, Store};
@@ -109,7 +109,7 @@ impl Tree<'_> {
     pub(crate) fn go_on(&self, within: &[Ends; 8], walk: Walk) -> Walk
         requires means { SomeRules self.now }
         requires walk { StandsAt self.now within.now walk }
-        ensures { Goes_on self.now within.now walk result }
+        ensures { GoesOn self.now within.now walk result }
     {
         self.store.next_cell(first_of(within, self.fields), walk)
     }
