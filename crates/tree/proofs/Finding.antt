@@ -1,4 +1,4 @@
--- The look_up of a message. Assumes nothing.
+-- The look-up of a message. Assumes nothing.
 use Rattle.std.proofs.Common.{◌≡◌, ℕ, ◌+◌, ◌<◌, ◌≤◌, true, false, cond, ◌&&◌, leb, ◌⊎◌, List, [], ◌∷◌, length, get_or, drop, Some, None, sym, refl, ap, ◌∙◌, subst, inl, inr, ⊎_elim, arith, MatchOption}
 use Rattle.std.proofs.lemmas.Bool.Decides.{nat_tests}
 use Rattle.std.proofs.lemmas.Bool.{cond-false}
@@ -25,7 +25,7 @@ look_on m k sh l = ap (λ xs. look_up xs sh) (drop_more m k 0 l)
 pub look_end : (m : List ℕ) (k : ℕ) (sh : Shape) → length m ≤ k → look_up (drop k m) sh ≡ sh
 look_end m k sh l = ap (λ xs. look_up xs sh) (drop_all k m l)
 
--- where no branch holds x the look_up finds nothing, and else what is below it
+-- where no branch holds x the look-up finds nothing, and else what is below it
 found_or_not : (x : ℕ) (sh : Shape) → ((branch_at x sh ≡ None) × (seek_in x sh ≡ bare)) ⊎ (branch_at x sh ≡ Some (seek_in x sh))
 found_or_not x bare = inl (refl, refl)
 found_or_not x (part (piece a b) below rest) =
@@ -38,7 +38,7 @@ look_bare : (vs : List ℕ) → look_up vs bare ≡ bare
 look_bare [] = refl
 look_bare (v ∷ vs) = look_bare vs
 
--- the look_up finds the cell that a message reaches
+-- the look-up finds the cell that a message reaches
 pub looked : (vs : List ℕ) (sh : Shape) (ns : List ℕ) → MatchOption (reached vs sh) (ns ≡ []) (λ c. marks_in c ≡ ns) → marks_in (look_up vs sh) ≡ ns
 looked [] sh ns h = h
 looked (v ∷ vs) sh ns h =
