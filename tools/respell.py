@@ -4,8 +4,9 @@ facts in upper camel case. Run once, at the top of the repository, after the kit
 
     python3 tools/respell.py
 
-It rewrites the .antt and .rt files below crates/. A name that is none of ours (a goal's, a library lemma's) stays. It
-stops before it writes if a new spelling is taken already, so a second run changes nothing."""
+It rewrites the .antt and .rt files below crates/, comments too; a word that is not in the list stays. It stops before it
+writes if a new spelling is taken already. That is what it does today: `branch-at`, in the list as a definition of before,
+is also the name that the check gives a step in two proofs of the tree, where it was put back by hand."""
 import pathlib
 import re
 import sys
