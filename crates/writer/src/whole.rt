@@ -54,7 +54,7 @@ fn put_rows<K: Kind, R: Rules<K>>(start: RowStage, rules: &R, out: &mut [u8]) ->
 fn put_decisions<K: Kind, R: Rules<K>>(start: DecisionStage, rules: &R, out: &mut [u8]) -> EndStep
     requires begun { start.done ≡ 0 }
     requires counted { start.plan.rules ≡ length (R.Rules.decisions rules.now) }
-    requires kind { (start.plan.code ≡ K.Kind.code) × (start.plan.size ≡ K.Kind.size) }
+    requires kind { (start.plan.code ≡ K.Kind.CODE) × (start.plan.size ≡ K.Kind.SIZE) }
     requires room { plan_length start.plan ≤ length out.old }
     ensures answer { end_told result ≡ granted (plan_length start.plan) }
     ensures after { out.new ≡ put (decisions_at (plan_fields start.plan) start.plan.rules) (flat_map K.Kind.written (R.Rules.decisions rules.now)) out.old }
@@ -81,14 +81,14 @@ pub fn write_table<K: Kind, R: Rules<K>>(
     out: &mut [u8],
 ) -> Result<usize, WriteFault>
     ensures answer { MatchResult result
-        (λ n. (table_refusal widths.now (R.Rules.rows rules.now) K.Kind.size (length out.old) ≡ None)
-        × (n ≡ file_length (length widths.now) (length (R.Rules.rows rules.now)) K.Kind.size))
-        (λ e. table_refusal widths.now (R.Rules.rows rules.now) K.Kind.size (length out.old) ≡ Some (write_reason e)) }
-    ensures after { out.new ≡ changed (table_refusal widths.now (R.Rules.rows rules.now) K.Kind.size (length out.old)) out.old
-        (put 0 (file_bytes K.Kind.written K.Kind.code widths.now (R.Rules.rows rules.now) (R.Rules.decisions rules.now)) out.old) }
-    ensures again { table_refusal widths.now (R.Rules.rows rules.now) K.Kind.size (length out.old) ≡ None →
-        ReadsAs K.Kind.reading K.Kind.code K.Kind.size
-        (file_bytes K.Kind.written K.Kind.code widths.now (R.Rules.rows rules.now) (R.Rules.decisions rules.now))
+        (λ n. (table_refusal widths.now (R.Rules.rows rules.now) K.Kind.SIZE (length out.old) ≡ None)
+        × (n ≡ file_length (length widths.now) (length (R.Rules.rows rules.now)) K.Kind.SIZE))
+        (λ e. table_refusal widths.now (R.Rules.rows rules.now) K.Kind.SIZE (length out.old) ≡ Some (write_reason e)) }
+    ensures after { out.new ≡ changed (table_refusal widths.now (R.Rules.rows rules.now) K.Kind.SIZE (length out.old)) out.old
+        (put 0 (file_bytes K.Kind.written K.Kind.CODE widths.now (R.Rules.rows rules.now) (R.Rules.decisions rules.now)) out.old) }
+    ensures again { table_refusal widths.now (R.Rules.rows rules.now) K.Kind.SIZE (length out.old) ≡ None →
+        ReadsAs K.Kind.reading K.Kind.CODE K.Kind.SIZE
+        (file_bytes K.Kind.written K.Kind.CODE widths.now (R.Rules.rows rules.now) (R.Rules.decisions rules.now))
         widths.now (R.Rules.rows rules.now) (R.Rules.decisions rules.now) }
 {
     let plan = Plan::test::<K>(widths, rules.count(), out.len())?;
@@ -114,12 +114,12 @@ pub fn write_table<K: Kind, R: Rules<K>>(
 
 // Writes an accepted file again: only room can lack.
 fn rewrite_file<K: Kind>(file: TableFile<'_, K>, out: &mut [u8]) -> Result<usize, WriteFault>
-    requires lawful { file_refusal file.bytes.now K.code K.size ≡ None }
+    requires lawful { file_refusal file.bytes.now K.CODE K.SIZE ≡ None }
     requires bytes { (k : ℕ) → slice_index file.bytes.now k < 256 }
     ensures answer { MatchResult result
-        (λ n. (rewrite_refusal file.entry.bytes.now K.code K.size (length out.old) ≡ None) × (n ≡ length file.entry.bytes.now))
-        (λ e. rewrite_refusal file.entry.bytes.now K.code K.size (length out.old) ≡ Some (told_by WriterLayer (write_reason e))) }
-    ensures after { out.new ≡ changed (rewrite_refusal file.entry.bytes.now K.code K.size (length out.old)) out.old (put 0 file.entry.bytes.now out.old) }
+        (λ n. (rewrite_refusal file.entry.bytes.now K.CODE K.SIZE (length out.old) ≡ None) × (n ≡ length file.entry.bytes.now))
+        (λ e. rewrite_refusal file.entry.bytes.now K.CODE K.SIZE (length out.old) ≡ Some (told_by WriterLayer (write_reason e))) }
+    ensures after { out.new ≡ changed (rewrite_refusal file.entry.bytes.now K.CODE K.SIZE (length out.old)) out.old (put 0 file.entry.bytes.now out.old) }
 {
     write_table(file.widths(), &file, out)
 }
@@ -128,9 +128,9 @@ fn rewrite_file<K: Kind>(file: TableFile<'_, K>, out: &mut [u8]) -> Result<usize
 // refused as the reader refuses it, or else only for lack of room, with the bytes needed and nothing written.
 pub fn rewrite<K: Kind>(bytes: &[u8], out: &mut [u8]) -> Result<usize, RewriteFault>
     ensures answer { MatchResult result
-        (λ n. (rewrite_refusal bytes.now K.code K.size (length out.old) ≡ None) × (n ≡ length bytes.now))
-        (λ e. rewrite_refusal bytes.now K.code K.size (length out.old) ≡ Some (rewrite_told e)) }
-    ensures after { out.new ≡ changed (rewrite_refusal bytes.now K.code K.size (length out.old)) out.old (put 0 bytes.now out.old) }
+        (λ n. (rewrite_refusal bytes.now K.CODE K.SIZE (length out.old) ≡ None) × (n ≡ length bytes.now))
+        (λ e. rewrite_refusal bytes.now K.CODE K.SIZE (length out.old) ≡ Some (rewrite_told e)) }
+    ensures after { out.new ≡ changed (rewrite_refusal bytes.now K.CODE K.SIZE (length out.old)) out.old (put 0 bytes.now out.old) }
 {
     let file = TableFile::<K>::open(bytes)?;
     let length = rewrite_file(file, out)?;

@@ -29,14 +29,14 @@ impl Plan {
         room: usize,
     ) -> Result<Plan, WriteFault>
         ensures { MatchResult result
-            (λ p. (start_refusal widths.now rules K.size room ≡ None) × Planned widths.now rules K.code K.size p)
-            (λ e. start_refusal widths.now rules K.size room ≡ Some (write_reason e)) }
+            (λ p. (start_refusal widths.now rules K.SIZE room ≡ None) × Planned widths.now rules K.CODE K.SIZE p)
+            (λ e. start_refusal widths.now rules K.SIZE room ≡ Some (write_reason e)) }
     {
         let tested = Widths::test(widths)?;
         if rules > 512 {
             return Err(WriteFault::Rules);
         }
-        let size = K::decision_size();
+        let size = usize::from(K::SIZE);
         let needed = length_of(widths.len(), rules, size);
         if room < needed {
             return Err(WriteFault::Room(needed));
@@ -44,7 +44,7 @@ impl Plan {
         Ok(Plan {
             widths: tested,
             rules: rules as u16,
-            code: K::kind_code(),
+            code: K::CODE,
             size: size as u16,
         })
     }
@@ -76,7 +76,7 @@ impl Plan {
 impl RowStage {
     // What a start would refuse with a buffer of so many bytes. Nothing is written.
     pub fn start_fault<K: Kind>(widths: &[u8], rules: usize, room: usize) -> Option<WriteFault>
-        ensures { option_map write_reason result ≡ start_refusal widths.now rules K.size room }
+        ensures { option_map write_reason result ≡ start_refusal widths.now rules K.SIZE room }
     {
         match Plan::test::<K>(widths, rules, room) {
             Ok(_) => None,
@@ -91,10 +91,10 @@ impl RowStage {
         out: &mut [u8],
     ) -> Result<RowStage, WriteFault>
         ensures answer { MatchResult result
-            (λ s. (start_refusal widths.now rules K.size (length out.old) ≡ None) × Begun widths.now rules K.code K.size s)
-            (λ e. start_refusal widths.now rules K.size (length out.old) ≡ Some (write_reason e)) }
-        ensures after { out.new ≡ changed (start_refusal widths.now rules K.size (length out.old)) out.old
-            (put 0 (head_bytes (length widths.now) rules K.code ++ widths.now) out.old) }
+            (λ s. (start_refusal widths.now rules K.SIZE (length out.old) ≡ None) × Begun widths.now rules K.CODE K.SIZE s)
+            (λ e. start_refusal widths.now rules K.SIZE (length out.old) ≡ Some (write_reason e)) }
+        ensures after { out.new ≡ changed (start_refusal widths.now rules K.SIZE (length out.old)) out.old
+            (put 0 (head_bytes (length widths.now) rules K.CODE ++ widths.now) out.old) }
     {
         let plan = Plan::test::<K>(widths, rules, out.len())?;
         Ok(plan.start(widths, out))
@@ -149,10 +149,10 @@ impl RowStage {
 impl DecisionStage {
     // Writes the next decision.
     pub fn decision<K: Kind>(self, out: &mut [u8], decision: K) -> DecisionStep
-        ensures answer { decision_told result ≡ judged (decision_refusal self K.code K.size (length out.old)) self (decision_next self) }
-        ensures after { out.new ≡ changed (decision_refusal self K.code K.size (length out.old)) out.old
+        ensures answer { decision_told result ≡ judged (decision_refusal self K.CODE K.SIZE (length out.old)) self (decision_next self) }
+        ensures after { out.new ≡ changed (decision_refusal self K.CODE K.SIZE (length out.old)) out.old
             (put (decision_place self) (K.written decision) out.old) }
-        ensures kept { decision_refusal self K.code K.size (length out.old) ≡ None → K.reading (K.written decision) ≡ decision }
+        ensures kept { decision_refusal self K.CODE K.SIZE (length out.old) ≡ None → K.reading (K.written decision) ≡ decision }
     {
         let needed = self.plan.length();
         if out.len() < needed {
@@ -162,8 +162,8 @@ impl DecisionStage {
         if done >= self.plan.rules {
             return DecisionStep::Refused(self, WriteFault::Count(done as usize));
         }
-        let size = K::decision_size();
-        if K::kind_code() != self.plan.code || size != self.plan.size as usize {
+        let size = usize::from(K::SIZE);
+        if K::CODE != self.plan.code || size != self.plan.size as usize {
             return DecisionStep::Refused(self, WriteFault::Kind);
         }
         let d = self.plan.widths.fields();

@@ -25,7 +25,7 @@ returns-in-Refused g c =
     let p = c.args.start.plan in
     let room : plan_length p ≤ length c.loop-rule.out = omega (arith, c.requires.room, c.loop-rule.auto.out) in
     let step =
-    decision_stepped p c.loop-rule.rule c.loop-rule.stage g.K.Kind.code g.K.Kind.size (g.K.Kind.written c.in-Some.decision) c.loop-rule.out c.decision-in-loop-rule.new.out (refused c.in-Refused.back (write_reason c.in-Refused.fault)) c.loop-rule.invariant.0 room (omega (arith, c.count-rule-end.ensures.of_decisions, c.requires.counted)) (sym c.requires.kind.0) (sym c.requires.kind.1)
+    decision_stepped p c.loop-rule.rule c.loop-rule.stage g.K.Kind.CODE g.K.Kind.SIZE (g.K.Kind.written c.in-Some.decision) c.loop-rule.out c.decision-in-loop-rule.new.out (refused c.in-Refused.back (write_reason c.in-Refused.fault)) c.loop-rule.invariant.0 room (omega (arith, c.count-rule-end.ensures.of_decisions, c.requires.counted)) (sym c.requires.kind.0) (sym c.requires.kind.1)
     c.in-Refused.ensures.answer
     c.in-Refused.ensures.after
     in
@@ -41,14 +41,14 @@ loop-rule-preserved g c =
     let below : k < length ds = omega (arith, c.count-rule-end.ensures.of_decisions) in
     let room : plan_length p ≤ length c.loop-rule.out = omega (arith, c.requires.room, c.loop-rule.auto.out) in
     let step =
-    decision_stepped p k c.loop-rule.stage g.K.Kind.code g.K.Kind.size (written x) c.loop-rule.out c.decision-in-loop-rule.new.out (granted c.in-Next.next) c.loop-rule.invariant.0 room (omega (arith, c.requires.counted)) (sym c.requires.kind.0) (sym c.requires.kind.1)
+    decision_stepped p k c.loop-rule.stage g.K.Kind.CODE g.K.Kind.SIZE (written x) c.loop-rule.out c.decision-in-loop-rule.new.out (granted c.in-Next.next) c.loop-rule.invariant.0 room (omega (arith, c.requires.counted)) (sym c.requires.kind.0) (sym c.requires.kind.1)
     c.in-Next.ensures.answer
     c.in-Next.ensures.after
     in
     let here : (y : g.row.K.Denot) → x ≡ get_or ds k y = λ y. let e = c.in-Some.ensures ∙ slice_get-get_or ds k y below in cc in
     let more = decisions_more written p ds x k c.args.out.now (here x) below (g.met.K.Kind.sized x ∙ sym c.requires.kind.1) c.requires.counted c.requires.room c.loop-rule.invariant.1 in
     let none =
-    ap (λ s. decision_refusal s g.K.Kind.code g.K.Kind.size (length c.loop-rule.out)) c.loop-rule.invariant.0
+    ap (λ s. decision_refusal s g.K.Kind.CODE g.K.Kind.SIZE (length c.loop-rule.out)) c.loop-rule.invariant.0
     ∙ decision_granted p k _ _ _ room (omega (arith, c.requires.counted)) (sym c.requires.kind.0) (sym c.requires.kind.1)
     in
     let same = c.in-Next.ensures.kept none in
