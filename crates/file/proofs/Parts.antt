@@ -1,12 +1,11 @@
 -- Parts of a file. Assumes nothing.
-use Rattle.std.proofs.Common.{◌≡◌, ℕ, zero, suc, ◌+◌, ◌-◌, ◌*◌, ◌<◌, ◌≤◌, min, List, [], ◌∷◌, ◌++◌, map, length, get_or, take, drop, Some, None, sym, refl, ap, ◌∙◌, ⊎_elim, arith, take-add}
+use Rattle.std.proofs.Common.{◌≡◌, ℕ, zero, suc, ◌+◌, ◌-◌, ◌<◌, ◌≤◌, min, List, [], ◌∷◌, ◌++◌, map, length, get_or, take, drop, Some, None, sym, refl, ap, ◌∙◌, ⊎_elim, arith, take-add}
 use Rattle.std.specs.List.{range_with_len, slice_get}
 use Rattle.std.proofs.lemmas.List.FromFn.{length-map-range_with_len, get_or-map-range_with_len, fill_by_all}
 use Rattle.std.proofs.lemmas.Option.{slice_get-get_or, slice_get_past}
 use Rattle.std.proofs.lemmas.List.{take_all, drop_all, length-drop, drop-drop, length-take-le, take_at, drop_at}
 use Rattle.std.proofs.lemmas.Bool.{cases_lt}
-use Rattle.file.specs.Layout.{part, fields, rules, decisions_at}
-use Rattle.file.specs.Contents.{decision_bytes}
+use Rattle.file.specs.Layout.{part}
 
 take_none : (n : ℕ) → take {A = ℕ} n [] ≡ []
 take_none n = take_all n [] (omega arith)
@@ -37,11 +36,6 @@ module _ {X : Type 0} (f : ℕ → X) (n r : ℕ) where
 
   pub nth_beyond : n ≤ r → slice_get (map f (range_with_len 0 n)) r ≡ None
   nth_beyond h = slice_get_past (map f (range_with_len 0 n)) r (omega (arith, length-map-range_with_len f 0 n))
-
--- a decision's bytes, by numbers as they were read
-pub decision_part : (bs : List ℕ) (d n r size s at : ℕ) → d ≡ fields bs → n ≡ rules bs → s ≡ size → at ≡ decisions_at d n + r * s
-    → part at s bs ≡ decision_bytes bs size r
-decision_part bs d n r size s at p q e h = rw (h, p, q, e)
 
 -- within a list there is an item
 pub nth_there : {X : Type 0} {P : Type 0} (xs : List X) (k : ℕ) → k < length xs → None ≡ slice_get xs k → P

@@ -2,21 +2,18 @@
 use Rattle.std.proofs.Common.{◌≡◌, ℕ, ◌+◌, ◌-◌, ◌*◌, ◌≤◌, Bool, true, false, cond, List, length, Some, None, Option, refl, arith}
 use Rattle.std.proofs.lemmas.Bool.{or_parts, ltb-false, eqb-true, not-false}
 use Rattle.std.proofs.lemmas.Bool.Decides.{nat_tests}
-use Rattle.file.specs.Layout.{file_refusal, header_refusal, body_refusal, counts_refusal, row_place, row_of, low_at, byte, four, fields, rules, rows_at, decisions_at, file_length, width_bytes, first_of}
+use Rattle.file.specs.Layout.{file_refusal, header_refusal, counts_refusal, row_place, row_of, low_at, byte, four, fields, rules, rows_at, decisions_at, file_length, width_bytes, first_of}
 use Rattle.std.specs.Option.{option_map}
 use Rattle.routing.specs.declared.ends.Ends.{Ends}
 use Rattle.routing.specs.Firsts.{first_some}
 use Rattle.routing.proofs.First.{mapped_none}
 use Rattle.routing.specs.Lawful.{widths_refusal, ends_refusal}
 
-module _ (bs : List ℕ) (code size : ℕ) where
-  pub by_header : (r : ℕ × ℕ) → Some r ≡ header_refusal bs code → file_refusal bs code size ≡ Some r
-  unfolding file_refusal
-  by_header r e = rw (← e)
-
-  pub by_body : (o : Option (ℕ × ℕ)) → None ≡ header_refusal bs code → o ≡ body_refusal bs size → file_refusal bs code size ≡ o
-  unfolding file_refusal
-  by_body o e f = rw (← e, ← f)
+-- with a header that nothing speaks against, the body settles it
+pub by_body : (bs : List ℕ) (code size : ℕ) (o : Option (ℕ × ℕ)) → None ≡ header_refusal bs code → o ≡ body_refusal bs size
+    → file_refusal bs code size ≡ o
+unfolding file_refusal
+by_body bs code size o e f = rw (← e, ← f)
 
 -- a row's fault by its byte, from the widths and the pairs as they were read
 pub row_placed : (bs : List ℕ) (d r : ℕ) (ws : List ℕ) (es : List Ends) (o : Option ℕ) → d ≡ fields bs → ws ≡ width_bytes bs

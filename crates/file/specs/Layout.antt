@@ -3,6 +3,7 @@ use Rattle.std.specs.Prelude.{ℕ, ◌+◌, ◌-◌, ◌*◌, ◌/◌, ◌%◌, 
 use Rattle.std.specs.List.{range_with_len}
 use Rattle.std.specs.Option.{option_map}
 use Rattle.routing.specs.declared.ends.Ends.{Ends}
+use Rattle.file.specs.declared.layout.Layout.{Layout}
 use Rattle.routing.specs.Firsts.{first_some}
 use Rattle.routing.specs.Lawful.{outside, widths_refusal, ends_refusal}
 
@@ -31,6 +32,10 @@ fields bs = byte bs 1
 abbrev pub rules : List ℕ → ℕ
 rules bs = two bs 4
 
+-- what the header settles, with decisions of a size
+abbrev pub layout_of : List ℕ → ℕ → Layout
+layout_of bs size = record { fields = fields bs; rules = rules bs; size = size }
+
 -- where the parts begin in a file of d fields and n rules, and where it ends
 abbrev pub rows_at : ℕ → ℕ
 rows_at d = 16 + d
@@ -48,9 +53,12 @@ file_length d n size = decisions_at d n + n * size
 abbrev pub width_bytes : List ℕ → List ℕ
 width_bytes bs = part 16 (fields bs) bs
 
--- the pair number k of the rows of d fields
+-- the pair at a place, and the pair number k of the rows of d fields
+abbrev pub pair_from : List ℕ → ℕ → Ends
+pair_from bs at = record { low = four bs at; high = four bs (at + 4) }
+
 abbrev pub pair : List ℕ → ℕ → ℕ → Ends
-pair bs d k = record { low = four bs (low_at d k); high = four bs (low_at d k + 4) }
+pair bs d k = pair_from bs (low_at d k)
 
 -- the ends where there is no field
 abbrev pub no_ends : Ends

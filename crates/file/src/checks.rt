@@ -1,21 +1,27 @@
 // The rules that a lawful file keeps, in the order in which they are tested.
-ghost use Rattle.std.specs.Prelude.{◌≡◌, ℕ, ◌+◌, ◌*◌, ◌<◌, ◌≤◌, length, None};
+ghost use Rattle.std.specs.Prelude.{◌≡◌, ◌≤◌, ◌<◌, ◌*◌, ◌+◌, ◌^◌, length, None, Some, MatchResult};
 ghost use Rattle.std.specs.Option.{option_map};
+ghost use Rattle.std.specs.Result.{result_err};
 ghost use Rattle.routing.specs.Fields.{widths_of};
 ghost use Rattle.routing.specs.Firsts.{first_some};
-ghost use Rattle.file.specs.Layout.{header_refusal, counts_refusal, body_refusal, row_place, fields, rules, width_bytes, pair, row_of};
-ghost use Rattle.routing.specs.Refusals.{widths_reason};
 ghost use Rattle.fault.specs.Faults.{file_reason};
+ghost use Rattle.file.specs.Layout.{header_refusal, counts_refusal, file_refusal, row_place, layout_of, fields, rules, width_bytes, pair_from, row_of};
 
-use crate::number::{four_at, two_at};
-use decision::bytes::byte_at;
+use crate::layout::Layout;
+use crate::number::four_at;
 use fault::reading::FileFault;
 use routing::ends::Ends;
-use routing::widths::{Widths, WidthsFault};
+use routing::widths::Widths;
+use std::array;
 
-// The header's own rules: numbers 1 to 5.
-pub fn header_fault(bytes: &[u8], kind: u8) -> Option<FileFault>
-    ensures { option_map file_reason result ≡ header_refusal bytes.now kind }
+// The ends where there is no field.
+pub const NO_ENDS: Ends = Ends { low: 0, high: 0 };
+
+// What the header counts, or the first of its own rules that it breaks: numbers 1 to 5.
+fn read_header(bytes: &[u8], kind: u8, size: u16) -> Result<Layout, FileFault>
+    ensures { MatchResult result
+        (λ l. (header_refusal bytes.now kind ≡ None) × (l ≡ layout_of bytes.now size))
+        (λ e. header_refusal bytes.now kind ≡ Some (file_reason e)) }
 {
     let [
         edition,
@@ -29,59 +35,62 @@ pub fn header_fault(bytes: &[u8], kind: u8) -> Option<FileFault>
         rest @ ..,
     ] = bytes
     else {
-        return Some(FileFault::Short(bytes.len()));
+        return Err(FileFault::Short(bytes.len()));
     };
     if rest.len() < 8 {
-        return Some(FileFault::Short(bytes.len()));
+        return Err(FileFault::Short(bytes.len()));
     }
     if *edition != 1 {
-        return Some(FileFault::Fixed(0));
+        return Err(FileFault::Fixed(0));
     }
     if *zero != 0 {
-        return Some(FileFault::Fixed(3));
+        return Err(FileFault::Fixed(3));
     }
     if *sixth != 0 {
-        return Some(FileFault::Fixed(6));
+        return Err(FileFault::Fixed(6));
     }
     if *seventh != 0 {
-        return Some(FileFault::Fixed(7));
+        return Err(FileFault::Fixed(7));
     }
-    if *fields < 1 || *fields > 8 {
-        return Some(FileFault::Fields);
+    if !(1..=8).contains(fields) {
+        return Err(FileFault::Fields);
     }
     if *code != kind {
-        return Some(FileFault::Kind);
+        return Err(FileFault::Kind);
     }
-    if *high as usize * 256 + *low as usize > 512 {
-        return Some(FileFault::Rules);
+    let rules = u16::from_be_bytes([*high, *low]);
+    if rules > 512 {
+        return Err(FileFault::Rules);
     }
-    None
+    Ok(Layout {
+        fields: *fields,
+        rules,
+        size,
+    })
 }
 
 // What the counts give: numbers 6 and 7.
-fn counts_fault(bytes: &[u8], d: usize, n: usize, size: usize) -> Option<FileFault>
-    requires { (d ≡ fields bytes.now) × ((n ≡ rules bytes.now) × ((d ≤ 8) × ((n ≤ 512) × (size < 65536)))) }
-    ensures { option_map file_reason result ≡ counts_refusal bytes.now size }
+fn check_counts(bytes: &[u8], layout: Layout) -> Result<(), FileFault>
+    requires { layout ≡ layout_of bytes.now layout.size }
+    ensures { option_map file_reason (result_err result) ≡ counts_refusal bytes.now layout.size }
 {
-    if four_at(bytes, 8) as usize != 16 + d {
-        return Some(FileFault::Offset(8));
+    if four_at(bytes, 8) as usize != layout.rows() {
+        return Err(FileFault::Offset(8));
     }
-    let decisions = 16 + d + 8 * (d * n);
-    if four_at(bytes, 12) as usize != decisions {
-        return Some(FileFault::Offset(12));
+    if four_at(bytes, 12) as usize != layout.decisions() {
+        return Err(FileFault::Offset(12));
     }
-    if bytes.len() != decisions + n * size {
-        return Some(FileFault::Length(bytes.len()));
+    if bytes.len() != layout.length() {
+        return Err(FileFault::Length(bytes.len()));
     }
-    None
+    Ok(())
 }
 
-// The pair number k of the rows.
-pub fn pair_at(bytes: &[u8], d: usize, k: usize) -> Ends
-    requires { (d < 256) × (k < 16777216) }
-    ensures { result ≡ pair bytes.now d k }
+// The pair at a place.
+fn pair_at(bytes: &[u8], at: usize) -> Ends
+    requires { at + 4 < 4294967296 }
+    ensures { result ≡ pair_from bytes.now at }
 {
-    let at = 16 + d + 8 * k;
     Ends {
         low: four_at(bytes, at),
         high: four_at(bytes, at + 4),
@@ -89,49 +98,43 @@ pub fn pair_at(bytes: &[u8], d: usize, k: usize) -> Ends
 }
 
 // The pairs of a rule, counted from 0.
-pub fn row_at(bytes: &[u8], d: usize, rule: usize) -> [Ends; 8]
-    requires of_fields { d ≡ fields bytes.now }
-    requires few { (d < 256) × (rule < 65536) }
+pub fn row_at(bytes: &[u8], layout: Layout, rule: u16) -> [Ends; 8]
+    requires { layout ≡ layout_of bytes.now layout.size }
     ensures { result ≡ row_of bytes.now rule }
 {
-    let mut row = [Ends { low: 0, high: 0 }; 8];
-    for k in 0..d.min(8) {
-        row[k] = pair_at(bytes, d, rule * d + k);
-    }
-    row
+    let at = layout.row(rule);
+    let fields = usize::from(layout.fields);
+    array::from_fn(|k| {
+        if k < fields {
+            pair_at(bytes, at + 8 * k)
+        } else {
+            NO_ENDS
+        }
+    })
 }
 
-// The first byte of the first ends that make no interval of their field: number 9.
-fn rows_fault(bytes: &[u8], widths: Widths, d: usize, n: usize) -> Option<usize>
-    requires of_fields { d ≡ fields bytes.now }
-    requires few { (d ≤ 8) × (n ≤ 512) }
+// The first ends that make no interval of their field: number 9.
+fn check_rows(bytes: &[u8], layout: Layout, widths: Widths) -> Result<(), FileFault>
+    requires of_header { layout ≡ layout_of bytes.now layout.size }
     requires of_widths { widths_of widths ≡ width_bytes bytes.now }
-    ensures { result ≡ first_some (row_place bytes.now) n }
+    ensures { option_map file_reason (result_err result) ≡ option_map (λ place. (9, place)) (first_some (row_place bytes.now) layout.rules) }
 {
-    for rule in 0..n {
-        if let Some(field) = widths.ends_fault(&row_at(bytes, d, rule)) {
-            return Some(16 + d + 8 * (rule * d + field as usize) - 8);
+    for rule in 0..layout.rules {
+        if let Some(field) = widths.ends_fault(&row_at(bytes, layout, rule)) {
+            let place = layout.row(rule) + 8 * usize::from(field) - 8;
+            return Err(FileFault::Ends(place));
         }
     }
-    None
+    Ok(())
 }
 
-// The rules that stand on a lawful header: numbers 6 to 9.
-pub fn body_fault(bytes: &[u8], size: usize) -> Option<FileFault>
-    requires { (1 ≤ fields bytes.now) × ((fields bytes.now ≤ 8) × ((rules bytes.now ≤ 512) × (size < 65536))) }
-    ensures { option_map file_reason result ≡ body_refusal bytes.now size }
+// Every rule that a file for decisions of a kind and a size keeps, or the first that it breaks.
+#[tactic(auto, unfolding(crate::specs::Layout::file_refusal))]
+pub fn check(bytes: &[u8], kind: u8, size: u16) -> Result<(), FileFault>
+    ensures { option_map file_reason (result_err result) ≡ file_refusal bytes.now kind size }
 {
-    let d = byte_at(bytes, 1) as usize;
-    let n = two_at(bytes, 4) as usize;
-    if let Some(fault) = counts_fault(bytes, d, n, size) {
-        return Some(fault);
-    }
-    let widths = match Widths::test(&bytes[16..16 + d]) {
-        Ok(widths) => widths,
-        Err(fault) => return Some(FileFault::from(fault)),
-    };
-    if let Some(place) = rows_fault(bytes, widths, d, n) {
-        return Some(FileFault::Ends(place));
-    }
-    None
+    let layout = read_header(bytes, kind, size)?;
+    check_counts(bytes, layout)?;
+    let widths = Widths::test(&bytes[16..layout.rows()])?;
+    check_rows(bytes, layout, widths)
 }

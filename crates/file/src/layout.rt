@@ -1,6 +1,9 @@
 // Where the parts of a file lie.
 ghost use Rattle.std.specs.Prelude.{◌≡◌, ◌+◌, ◌*◌, ◌<◌, ◌≤◌};
-ghost use Rattle.file.specs.Layout.{rows_at, low_at, decisions_at, file_length};
+ghost use Rattle.file.specs.Layout.{layout_of, rows_at, low_at, decisions_at, file_length};
+
+use crate::number::two_at;
+use decision::bytes::byte_at;
 
 /// What settles where the parts of a file lie: how many fields and rules it has, and the bytes of a decision.
 #[derive(Clone, Copy, Debug, PartialEq, Eq)]
@@ -19,6 +22,17 @@ fn product(a: u16, b: u16) -> usize
 }
 
 impl Layout {
+    // As the header of a file counts, with decisions of a size.
+    pub(crate) fn of(bytes: &[u8], size: u16) -> Layout
+        ensures { result ≡ layout_of bytes.now size }
+    {
+        Layout {
+            fields: byte_at(bytes, 1),
+            rules: two_at(bytes, 4),
+            size,
+        }
+    }
+
     /// Where the rows begin.
     pub fn rows(self) -> usize
         ensures { result ≡ rows_at self.fields }

@@ -1,32 +1,32 @@
 // Reading a file where the caller keeps it.
-ghost use Rattle.std.specs.Prelude.{◌≡◌, Some, None, MatchResult};
-ghost use Rattle.std.specs.Option.{option_map};
-ghost use Rattle.file.specs.Layout.{file_refusal, fields, width_bytes};
+ghost use Rattle.std.specs.Prelude.{◌≡◌, ◌<◌, ◌≤◌, Some, None, MatchOption, MatchResult};
+ghost use Rattle.file.specs.Layout.{file_refusal, layout_of, fields, rules, width_bytes};
 ghost use Rattle.fault.specs.Faults.{file_reason};
 
-use crate::checks::{body_fault, header_fault};
+use crate::checks::check;
+use crate::layout::Layout;
 use crate::number::part_of;
-use decision::bytes::byte_at;
 use decision::kind::Kind;
 use fault::reading::FileFault;
+use std::alloc::AllocError;
 use std::marker::PhantomData;
 
-// A file of decisions of the kind K. It is made by `open` alone, which accepts only lawful files.
-#[derive(Clone, Copy)]
-pub struct TableFile<'a, K> {
+// A lawful file of decisions of the kind K, which `open` alone makes.
+pub struct TableFile<'a, K: Kind> {
     pub(crate) bytes: &'a [u8],
     kind: PhantomData<K>,
+    ghost lawful: { file_refusal bytes.now K.CODE K.SIZE ≡ None },
 }
 
-// The first rule that a file for decisions of the kind K breaks.
-fn first_fault<K: Kind>(bytes: &[u8]) -> Option<FileFault>
-    ensures { option_map file_reason result ≡ file_refusal bytes.now K.CODE K.SIZE }
-{
-    if let Some(fault) = header_fault(bytes, K::CODE) {
-        return Some(fault);
+impl<'a, K: Kind> Clone for TableFile<'a, K> {
+    ghost is_clone = { λ file copy. copy ≡ file };
+
+    fn clone(&self) -> Result<Self, AllocError> {
+        Ok(*self)
     }
-    body_fault(bytes, usize::from(K::SIZE))
 }
+
+impl<'a, K: Kind> Copy for TableFile<'a, K> {}
 
 impl<'a, K: Kind> TableFile<'a, K> {
     // The file, or the first rule that it breaks.
@@ -35,26 +35,41 @@ impl<'a, K: Kind> TableFile<'a, K> {
             (λ f. (file_refusal bytes.now K.CODE K.SIZE ≡ None) × (f.bytes.now ≡ bytes.now))
             (λ e. file_refusal bytes.now K.CODE K.SIZE ≡ Some (file_reason e)) }
     {
-        if let Some(fault) = first_fault::<K>(bytes) {
-            return Err(fault);
-        }
+        check(bytes, K::CODE, K::SIZE)?;
         Ok(TableFile {
             bytes,
             kind: PhantomData,
         })
     }
 
+    pub(crate) fn layout(&self) -> Layout
+        ensures { result ≡ layout_of self.now.bytes.now K.SIZE }
+    {
+        Layout::of(self.bytes, K::SIZE)
+    }
+
+    // The number of a rule that there is, counted from 0.
+    pub(crate) fn rule(&self, rule: usize) -> Option<u16>
+        ensures { MatchOption result (rules self.now.bytes.now ≤ rule) (λ r. (r ≡ rule) × (r < rules self.now.bytes.now)) }
+    {
+        if rule < usize::from(self.layout().rules) {
+            Some(rule as u16)
+        } else {
+            None
+        }
+    }
+
     // How many fields the table has.
     pub fn fields(&self) -> usize
         ensures { result ≡ fields self.now.bytes.now }
     {
-        byte_at(self.bytes, 1) as usize
+        usize::from(self.layout().fields)
     }
 
     // A byte for the width of each field.
     pub fn widths(&self) -> &'a [u8]
         ensures { result.now ≡ width_bytes self.now.bytes.now }
     {
-        part_of(self.bytes, 16, byte_at(self.bytes, 1) as usize)
+        part_of(self.bytes, 16, usize::from(self.layout().fields))
     }
 }

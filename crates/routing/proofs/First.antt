@@ -45,10 +45,6 @@ module _ (f : ℕ → Option ℕ) where
   none_all (suc n) h = rw (none_all n (λ k l. h k (omega arith)), h n (omega arith))
 
 module _ (bad : ℕ → Bool) (place : ℕ → ℕ) where
-  -- one more that passes
-  pub none_more : (k : ℕ) → first_below bad place k ≡ None → bad k ≡ false → first_below bad place (k + 1) ≡ None
-  none_more k e h = some_more (λ j. broken (bad j) (place j)) k e (rw h)
-
   -- where there is none, each passes
   pub none_below : (n k : ℕ) → k < n → first_below bad place n ≡ None → bad k ≡ false
   none_below n k h e = broken_none (bad k) (place k) (some_none (λ j. broken (bad j) (place j)) n k h e)
