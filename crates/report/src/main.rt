@@ -21,13 +21,12 @@ fn print_fields<K: Kind>(rt: &impl Print, file: &TableFile<'_, K>) -> io::Result
     Ok(())
 }
 
-// One rule: its intervals and its decision.
+// The intervals and the decision of a rule.
 fn print_rule<K: Kind + Display>(
     rt: &impl Print,
     file: &TableFile<'_, K>,
     rule: usize,
 ) -> io::Result<()> {
-    print!(rt; "rule {}:", rule.saturating_add(1))?;
     for pair in file.row(rule).iter().take(file.fields()) {
         print!(rt; " [{}, {}]", pair.low, pair.high)?;
     }
@@ -51,6 +50,7 @@ fn report<K: Kind + Display>(
     println!(rt; "table of {kind}: {rules} rules, {} fields", file.fields())?;
     print_fields(rt, &file)?;
     for rule in 0..rules {
+        print!(rt; "rule {}:", rule + 1)?;
         print_rule(rt, &file, rule)?;
     }
     let mut again = vec![in rt.alloc(); 0u8; bytes.len()]?;

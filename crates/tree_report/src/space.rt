@@ -1,5 +1,5 @@
 // The tree of a file's rules: the space that it takes, and the rules that match at each rule's low corner.
-ghost use Rattle.std.specs.Prelude.{◌≡◌, [], length};
+ghost use Rattle.std.specs.Prelude.{◌≡◌, ◌<◌, [], length, IfErr};
 ghost use Rattle.routing.specs.Fields.{widths_of};
 ghost use Rattle.tree.specs.Means.{Means};
 ghost use Rattle.tree.specs.Calls.{SomeRules};
@@ -43,7 +43,8 @@ fn memory(alloc: Global) -> Result<(Vec<Branch>, Vec<Mark>), AllocError> {
 fn grow<K: Kind>(tree: &mut Tree<'_>, widths: Widths, file: TableFile<'_, K>) -> Result<usize, Full>
     requires empty { Means tree.old [] }
     requires fields { tree.old.fields ≡ length (widths_of widths) }
-    ensures { SomeRules tree.new }
+    ensures means { SomeRules tree.new }
+    ensures few { IfErr result (λ full. full.rules < 512) }
 {
     let count = file.count().min(512);
     for rule in 0..count {
@@ -92,7 +93,7 @@ fn print_tree<K: Kind>(
         used.branches, used.marks
     )?;
     for rule in 0..rules {
-        print!(rt; "low corner of rule {}: rules", rule.saturating_add(1))?;
+        print!(rt; "low corner of rule {}: rules", rule + 1)?;
         print_matching(rt, tree, file.row(rule).map(|pair| pair.low))?;
     }
     Ok(())
@@ -116,7 +117,7 @@ pub(crate) fn print_space<K: Kind>(
                 Lack::Branches => "branches",
                 Lack::Marks => "marks",
             };
-            println!(rt; "tree: rule {} lacks {lacked}", rules.saturating_add(1))?;
+            println!(rt; "tree: rule {} lacks {lacked}", rules + 1)?;
             rules
         }
     };

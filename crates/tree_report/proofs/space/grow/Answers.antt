@@ -17,8 +17,8 @@ append-requires g c =
     }
 
 -- a refused append leaves the tree
-pub returns-in-Err : goal.returns-in-Err
-returns-in-Err g c =
+pub returns-in-Err-clause-means : goal.returns-in-Err-clause-means
+returns-in-Err-clause-means g c =
     let (T, e, n) = c.loop-rule.invariant.meant in
     let A = c.in-Err.ensures in
     (T, subst (λ x. Means x T) (sym (A.refused T _ e (A.answer T e))) e)
