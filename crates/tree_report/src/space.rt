@@ -68,11 +68,9 @@ fn print_matching(rt: &impl Print, tree: &Tree<'_>, message: Message) -> io::Res
         if at == NONE {
             break;
         }
-        if k > 0 {
-            print!(rt; ",")?;
-        }
+        let comma = if k > 0 { "," } else { "" };
         let mark = tree.mark(at);
-        print!(rt; " {}", mark.rule)?;
+        print!(rt; "{comma} {}", mark.rule)?;
         at = mark.next;
     }
     println!(rt)
