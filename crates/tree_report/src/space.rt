@@ -1,17 +1,17 @@
 // The tree of a file's rules: the space that it takes, and the rules that match at each rule's low corner.
-ghost use Rattle.std.specs.Prelude.{◌≡◌, List, [], length};
+ghost use Rattle.std.specs.Prelude.{◌≡◌, ◌<◌, [], length, IfErr};
 ghost use Rattle.routing.specs.Fields.{widths_of};
-ghost use Rattle.routing.specs.declared.ends.Ends.{Ends as Pair};
 ghost use Rattle.tree.specs.Means.{Means};
+ghost use Rattle.tree.specs.Calls.{SomeRules};
 
 use decision::kind::Kind;
 use file::reader::TableFile;
 use file::rules::Rules;
-use routing::ends::Ends;
 use routing::rule::Message;
 use routing::widths::Widths;
-use std::alloc::AllocError;
+use std::alloc::{AllocError, Global};
 use std::io;
+use std::process::ExitCode;
 use tree::all_match::{Lack, Tree};
 use tree::records::{Branch, Mark, NONE};
 
@@ -25,130 +25,100 @@ const NO_BRANCH: Branch = Branch {
 
 const NO_MARK: Mark = Mark { rule: 0, next: 0 };
 
-// There is no memory for the tree, or nothing can be printed.
-pub enum SpaceFault {
-    Memory,
-    Io(io::Error),
-}
-
-impl From<AllocError> for SpaceFault {
-    fn from(value: AllocError) -> SpaceFault {
-        SpaceFault::Memory
-    }
-}
-
-impl From<io::Error> for SpaceFault {
-    fn from(value: io::Error) -> SpaceFault {
-        SpaceFault::Io(value)
-    }
-}
-
-// How many rules a tree has, and what the next one lacked.
+// A tree takes no more rules: how many it has, and what the next one lacks.
 #[derive(Clone, Copy)]
-pub struct Grown {
-    pub rules: usize,
-    pub lack: Option<Lack>,
+struct Full {
+    rules: usize,
+    lack: Lack,
 }
 
-// Appends a file's rules to an empty tree, as far as its space goes.
-fn grow<K: Kind>(tree: &mut Tree<'_>, widths: Widths, file: TableFile<'_, K>) -> Grown
-    requires { (Means tree.old []) × (tree.old.fields ≡ length (widths_of widths)) }
-    ensures { (T : List (List Pair)) × Means tree.new T }
+// Memory for the largest tree.
+fn memory(alloc: Global) -> Result<(Vec<Branch>, Vec<Mark>), AllocError> {
+    let branches = vec![in alloc; NO_BRANCH; 65536]?;
+    let marks = vec![in alloc; NO_MARK; 1048576]?;
+    Ok((branches, marks))
+}
+
+// Appends a file's rules to an empty tree, as far as its space goes, and says how many they are.
+fn grow<K: Kind>(tree: &mut Tree<'_>, widths: Widths, file: TableFile<'_, K>) -> Result<usize, Full>
+    requires empty { Means tree.old [] }
+    requires fields { tree.old.fields ≡ length (widths_of widths) }
+    ensures means { SomeRules tree.new }
+    ensures few { IfErr result (λ full. full.rules < 512) }
 {
     let count = file.count().min(512);
     for rule in 0..count {
         let ends = file.row(rule);
-        // a lawful file has no such rule
-        if let Some(_) = widths.ends_fault(&ends) {
-            return Grown {
-                rules: rule,
-                lack: None,
-            };
+        if widths.ends_fault(&ends).is_some() {
+            return Ok(rule); // a lawful file has no such rule
         }
         if let Err(lack) = tree.append(&ends, (rule + 1) as u16) {
-            return Grown {
-                rules: rule,
-                lack: Some(lack),
-            };
+            return Err(Full { rules: rule, lack });
         }
     }
-    Grown {
-        rules: count,
-        lack: None,
-    }
-}
-
-// The message of a rule's low ends.
-fn low_corner(ends: &[Ends; 8], fields: usize) -> Message {
-    let mut corner = [0; 8];
-    for k in 0..fields.min(8) {
-        corner[k] = ends[k].low;
-    }
-    corner
+    Ok(count)
 }
 
 // The numbers of the rules that match a message.
-fn print_matching(rt: &HostRuntime, tree: &Tree<'_>, message: Message) -> io::Result<()>
-    requires { (T : List (List Pair)) × Means tree.now T }
+fn print_matching(rt: &impl Print, tree: &Tree<'_>, message: Message) -> io::Result<()>
+    requires { SomeRules tree.now }
 {
     let mut at = tree.look_up(message);
-    let mut first = true;
-    for _ in 0..512 {
+    for k in 0..512 {
         if at == NONE {
             break;
         }
+        let comma = if k > 0 { "," } else { "" };
         let mark = tree.mark(at);
-        let number = mark.rule;
-        if first {
-            print!(rt; " {number}")?;
-        } else {
-            print!(rt; ", {number}")?;
-        }
-        first = false;
+        print!(rt; "{comma} {}", mark.rule)?;
         at = mark.next;
     }
-    println!(rt; "")
+    println!(rt)
 }
 
-// The space that a tree of these rules takes, and what matches at each one's low corner.
+// The space that a tree of a file's first rules takes, and what matches at each one's low corner.
 fn print_tree<K: Kind>(
-    rt: &HostRuntime,
+    rt: &impl Print,
     tree: &Tree<'_>,
     file: TableFile<'_, K>,
-    grown: Grown,
+    rules: usize,
 ) -> io::Result<()>
-    requires { (T : List (List Pair)) × Means tree.now T }
+    requires { SomeRules tree.now }
 {
-    let rules = grown.rules;
-    let next = rules.saturating_add(1);
-    match grown.lack {
-        Some(Lack::Branches) => println!(rt; "tree: rule {next} lacks branches")?,
-        Some(Lack::Marks) => println!(rt; "tree: rule {next} lacks marks")?,
-        None => {}
-    }
     let used = tree.used();
-    let branches = used.branches;
-    let marks = used.marks;
-    println!(rt; "tree: {rules} rules, {branches} branches, {marks} marks")?;
+    println!(rt;
+        "tree: {rules} rules, {} branches, {} marks",
+        used.branches, used.marks
+    )?;
     for rule in 0..rules {
-        let number = rule.saturating_add(1);
-        print!(rt; "low corner of rule {number}: rules")?;
-        print_matching(rt, tree, low_corner(&file.row(rule), file.fields()))?;
+        print!(rt; "low corner of rule {}: rules", rule + 1)?;
+        print_matching(rt, tree, file.row(rule).map(|pair| pair.low))?;
     }
     Ok(())
 }
 
 // Grows the tree of a file's rules in memory of its own, and prints what it says.
 pub(crate) fn print_space<K: Kind>(
-    rt: &HostRuntime,
+    rt: &(impl AllocGlobal + Print + Eprint),
     widths: Widths,
     file: TableFile<'_, K>,
-) -> Result<(), SpaceFault> {
-    let heap = rt.alloc();
-    let mut branches = vec![in heap; NO_BRANCH; 65536]?;
-    let mut marks = vec![in heap; NO_MARK; 1048576]?;
-    let mut tree = Tree::new(branches.as_mut_slice(), marks.as_mut_slice(), widths);
-    let grown = grow(&mut tree, widths, file);
-    print_tree(rt, &tree, file, grown)?;
-    Ok(())
+) -> io::Result<ExitCode> {
+    let Ok((mut branches, mut marks)) = memory(rt.alloc()) else {
+        eprintln!(rt; "tree_report: there is no memory for the tree")?;
+        return Ok(ExitCode::FAILURE);
+    };
+    let mut tree = Tree::new(&mut branches, &mut marks, widths);
+    let rules = match grow(&mut tree, widths, file) {
+        Ok(rules) => rules,
+        Err(Full { rules, lack }) => {
+            let lacked = match lack {
+                Lack::Branches => "branches",
+                Lack::Marks => "marks",
+            };
+            println!(rt; "tree: rule {} lacks {lacked}", rules + 1)?;
+            rules
+        }
+    };
+    print_tree(rt, &tree, file, rules)?;
+    Ok(ExitCode::SUCCESS)
 }

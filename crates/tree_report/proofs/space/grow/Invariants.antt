@@ -6,4 +6,7 @@ use Rattle.tree_report.proofs.space.grow.Given as goal
 
 abbrev pub invariant-loop-rule : goal.invariant-loop-rule
 invariant-loop-rule g l =
-    ((T : List (List Ends)) × Means l.tree T × (length T ≡ l.rule)) × (l.tree.fields ≡ length (widths_of l.widths))
+    record {
+      meant : (T : List (List Ends)) × Means l.tree T × (length T ≡ l.rule);
+      fields : l.tree.fields ≡ length (widths_of l.widths);
+    }

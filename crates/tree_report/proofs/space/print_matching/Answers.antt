@@ -1,13 +1,10 @@
 use Rattle.tree_report.proofs.space.print_matching.Goals as goal
 
-pub loop-init : goal.loop-init
-loop-init c = let (T, e) = c.requires in (_, c.look_up-at.ensures T e)
+pub loop-k-init : goal.loop-k-init
+loop-k-init g c = let (T, e) = c.requires in (_, c.look_up-at.ensures T e)
 
-pub mark-mark-requires : goal.mark-mark-requires
-mark-mark-requires c = (c.loop.invariant, c.if-at.false)
-
-pub loop-preserved : goal.loop-preserved
-loop-preserved c =
-    let (ns, L) = c.loop.invariant in
+pub loop-k-preserved : goal.loop-k-preserved
+loop-k-preserved g c =
+    let (ns, L) = c.loop-k.invariant in
     let (rest, is, M) = c.mark-mark.ensures ns L in
     (rest, M)

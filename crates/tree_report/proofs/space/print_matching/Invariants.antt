@@ -2,5 +2,5 @@ use Rattle.std.proofs.Common.{ℕ, List}
 use Rattle.tree.specs.Tours.{Lists}
 use Rattle.tree_report.proofs.space.print_matching.Given as goal
 
-abbrev pub invariant-loop : goal.invariant-loop
-invariant-loop l = (ns : List ℕ) × Lists l.tree.store l.at ns
+abbrev pub invariant-loop-k : goal.invariant-loop-k
+invariant-loop-k g l = (ns : List ℕ) × Lists l.tree.store l.at ns
