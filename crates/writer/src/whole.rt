@@ -1,5 +1,5 @@
 // Whole tables written to a file, through the stages.
-ghost use Rattle.std.specs.Prelude.{◌≡◌, ℕ, ◌<◌, ◌≤◌, List, length, Some, None, MatchResult, slice_index, slice_index_or};
+ghost use Rattle.std.specs.Prelude.{◌≡◌, ℕ, ◌<◌, ◌≤◌, List, length, Some, None, Ok, MatchResult, slice_index, slice_index_or};
 ghost use Rattle.std.specs.List.{flat_map};
 ghost use Rattle.routing.specs.Fields.{widths_of};
 ghost use Rattle.routing.specs.Lawful.{ends_refusal};
@@ -7,11 +7,11 @@ ghost use Rattle.fault.specs.Faults.{write_reason, rewrite_told};
 ghost use Rattle.file.specs.Layout.{rows_at, decisions_at, file_length, file_refusal};
 ghost use Rattle.routing.specs.Refusals.{told_by};
 ghost use Rattle.routing.specs.declared.refusal.Layer.TheVariants.{Writer as WriterLayer};
-ghost use Rattle.writer.specs.Stages.{put, plan_fields, plan_length, turn_told, turned, end_told, granted, changed};
+ghost use Rattle.writer.specs.Stages.{put, plan_fields, plan_length, turned, changed};
 ghost use Rattle.file.specs.Contents.{blank};
 ghost use Rattle.writer.specs.Tables.{rows_bytes, file_bytes, rows_refusal, table_refusal, rewrite_refusal, ReadsAs};
 
-use crate::stage::{DecisionStage, DecisionStep, EndStep, Plan, RowStage, RowStep, TurnStep};
+use crate::stage::{DecisionStage, Plan, RowStage};
 use decision::kind::Kind;
 use fault::writing::{RewriteFault, WriteFault};
 use file::reader::TableFile;
@@ -32,45 +32,45 @@ fn rows_fault<K: Kind, R: Rules<K>>(widths: Widths, rules: &R) -> Option<u8>
 }
 
 // Writes all rows and turns.
-fn put_rows<K: Kind, R: Rules<K>>(start: RowStage, rules: &R, out: &mut [u8]) -> TurnStep
+fn put_rows<K: Kind, R: Rules<K>>(
+    start: RowStage,
+    rules: &R,
+    out: &mut [u8],
+) -> Result<DecisionStage, WriteFault>
     requires begun { start.done ≡ 0 }
     requires counted { start.plan.rules ≡ length (R.Rules.rows rules.now) }
     requires room { plan_length start.plan ≤ length out.old }
     requires lawful { (k : ℕ) → k < length (R.Rules.rows rules.now) → ends_refusal (widths_of start.plan.widths) (slice_index_or (R.Rules.rows rules.now) k blank) ≡ None }
-    ensures answer { turn_told result ≡ granted (turned start) }
+    ensures answer { result ≡ Ok (turned start) }
     ensures after { out.new ≡ put (rows_at (plan_fields start.plan)) (rows_bytes (plan_fields start.plan) (R.Rules.rows rules.now)) out.old }
 {
     let mut stage = start;
     for rule in 0..rules.count() {
-        stage = match stage.row(out, rules.row(rule)) {
-            RowStep::Next(next) => next,
-            RowStep::Refused(back, fault) => return TurnStep::Refused(back, fault),
-        };
+        stage = stage.row(out, rules.row(rule))?;
     }
-    stage.turn()
+    Ok(stage.turn()?)
 }
 
 // Writes all decisions and ends.
-fn put_decisions<K: Kind, R: Rules<K>>(start: DecisionStage, rules: &R, out: &mut [u8]) -> EndStep
+fn put_decisions<K: Kind, R: Rules<K>>(
+    start: DecisionStage,
+    rules: &R,
+    out: &mut [u8],
+) -> Result<usize, WriteFault>
     requires begun { start.done ≡ 0 }
     requires counted { start.plan.rules ≡ length (R.Rules.decisions rules.now) }
-    requires kind { (start.plan.code ≡ K.Kind.code) × (start.plan.size ≡ K.Kind.size) }
+    requires of_code { start.plan.code ≡ K.Kind.code }
+    requires of_size { start.plan.size ≡ K.Kind.size }
     requires room { plan_length start.plan ≤ length out.old }
-    ensures answer { end_told result ≡ granted (plan_length start.plan) }
+    ensures answer { result ≡ Ok (plan_length start.plan) }
     ensures after { out.new ≡ put (decisions_at (plan_fields start.plan) start.plan.rules) (flat_map K.Kind.written (R.Rules.decisions rules.now)) out.old }
     ensures kept { (k : ℕ) → k < length (R.Rules.decisions rules.now) → (x : K) → K.Kind.reading (K.Kind.written (slice_index_or (R.Rules.decisions rules.now) k x)) ≡ slice_index_or (R.Rules.decisions rules.now) k x }
 {
     let mut stage = start;
     for rule in 0..rules.count() {
-        let Some(decision) = rules.decision(rule) else {
-            return EndStep::Refused(stage, WriteFault::Count(rule));
-        };
-        stage = match stage.decision(out, decision) {
-            DecisionStep::Next(next) => next,
-            DecisionStep::Refused(back, fault) => return EndStep::Refused(back, fault),
-        };
+        stage = stage.decision(out, rules.decision(rule).unwrap())?;
     }
-    stage.end()
+    Ok(stage.end()?)
 }
 
 // Writes a file of these widths and rules, with the header, the widths, the rows and the decisions in their places and no other byte
@@ -95,21 +95,8 @@ pub fn write_table<K: Kind, R: Rules<K>>(
     if let Some(field) = rows_fault(plan.widths, rules) {
         return Err(WriteFault::Ends(field));
     }
-    let stage = plan.start(widths, out);
-    let stage = match put_rows(stage, rules, out) {
-        TurnStep::Next(next) => next,
-        TurnStep::Refused(back, fault) => {
-            back.abandon();
-            return Err(fault);
-        }
-    };
-    match put_decisions(stage, rules, out) {
-        EndStep::Done(length) => Ok(length),
-        EndStep::Refused(back, fault) => {
-            back.abandon();
-            Err(fault)
-        }
-    }
+    let stage = put_rows(plan.start(widths, out), rules, out)?;
+    put_decisions(stage, rules, out)
 }
 
 // Writes an accepted file again: only room can lack.
