@@ -2,6 +2,7 @@
 #![tactic(auto)]
 
 mod checks;
+pub mod layout;
 mod number;
 pub mod reader;
 pub mod rules;
