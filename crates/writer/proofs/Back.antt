@@ -15,15 +15,16 @@ use Rattle.routing.proofs.First.{none_all, none_below, none_from}
 use Rattle.file.specs.Layout.{byte, four, four_bytes, part, fields, rules, rows_at, low_at, decisions_at, file_length, width_bytes, pair, no_ends, eight, row_of, row_place, header_refusal, counts_refusal, body_refusal, file_refusal, first_of, at_byte}
 use Rattle.writer.specs.Stages.{put, ends_bytes, row_bytes, head_bytes, plan_fields, Planned}
 use Rattle.writer.specs.declared.stage.Plan.{Plan}
-use Rattle.writer.specs.declared.stage.RowStage.{RowStage}
-use Rattle.writer.specs.declared.stage.DecisionStage.{DecisionStage}
+use Rattle.writer.specs.declared.stage.Stage.{Stage}
+use Rattle.writer.specs.declared.stage.Rows.{Rows}
+use Rattle.writer.specs.declared.stage.Decisions.{Decisions}
 use Rattle.file.specs.Contents.{blank, rows_of, decision_bytes, decisions_of}
 use Rattle.writer.specs.Tables.{trimmed, rows_bytes, file_bytes, ReadsAs}
 use Rattle.writer.proofs.Joins.{joined_split, joined_length, front_length}
 use Rattle.writer.proofs.Numbers.{four_back, pair_at}
 use Rattle.file.proofs.Parts.{part_at, counted_items}
 use Rattle.writer.proofs.Puts.{put_put, row_length}
-use Rattle.writer.proofs.Steps.{rows_done, decisions_done}
+use Rattle.writer.proofs.Steps.{stage_after}
 use Rattle.file.proofs.Refused.{header_lawful, counts_lawful, by_body}
 use Rattle.writer.proofs.Rooms.{eight_times}
 use Rattle.file.proofs.Rows.{eight_same}
@@ -242,7 +243,7 @@ module _ {K : Type 0} (written : K → List ℕ) (reading : List ℕ → K) (cod
       }
 
   -- a plan's stages put the whole file
-  pub table_put : (p : Plan) → Planned ws n code size p → (s : RowStage) → s ≡ rows_done p 0 → (t : DecisionStage) → t ≡ decisions_done p 0
+  pub table_put : (p : Plan) → Planned ws n code size p → (s : Stage Rows) → s ≡ stage_after p 0 → (t : Stage Decisions) → t ≡ stage_after p 0
       → (out o₁ o₂ o₃ : List ℕ) → o₁ ≡ put 0 (head_bytes d p.rules p.code ++ ws) out
       → o₂ ≡ put (rows_at (plan_fields s.plan)) (rows_bytes (plan_fields s.plan) rows) o₁
       → o₃ ≡ put (decisions_at (plan_fields t.plan) t.plan.rules) (flat_map written ds) o₂ → file_length d n size ≤ length out

@@ -1,5 +1,6 @@
 mod Again
 mod Back
+mod Finds
 mod Joins
 mod Numbers
 mod Pieces

@@ -6,6 +6,7 @@ use Rattle.routing.specs.declared.ends.Ends.{Ends}
 use Rattle.routing.specs.Fields.{widths_of}
 use Rattle.routing.specs.Lawful.{widths_refusal, ends_refusal}
 use Rattle.fault.specs.Faults.{write_reason}
+use Rattle.file.specs.declared.layout.Layout.{Layout}
 use Rattle.file.specs.Layout.{four_bytes, rows_at, low_at, decisions_at, file_length, first_of}
 use Rattle.writer.specs.declared.stage.Plan.{Plan}
 use Rattle.writer.specs.declared.stage.Rows.{Rows}
@@ -31,6 +32,9 @@ head_bytes d n code =
 -- the fields and the length of the file that a plan is for
 abbrev pub plan_fields : Plan → ℕ
 plan_fields p = length (widths_of p.widths)
+
+abbrev pub plan_layout : Plan → Layout
+plan_layout p = record { fields = plan_fields p; rules = p.rules; size = p.size }
 
 abbrev pub plan_length : Plan → ℕ
 plan_length p = file_length (plan_fields p) p.rules p.size
@@ -85,7 +89,7 @@ module _ {P : Type 0} where
   early_refusal s = cond (nat_lt s.done s.plan.rules) (Some (17, s.done)) None
 
   abbrev pub next_stage : Stage P → Stage P
-  next_stage s = record { plan = s.plan; done = s.done + 1 }
+  next_stage s = record s { done = s.done + 1 }
 
 -- a row: 16, 17, 9
 abbrev pub row_refusal : Stage Rows → List Ends → ℕ → Option (ℕ × ℕ)
@@ -96,7 +100,7 @@ abbrev pub row_at : Stage Rows → ℕ
 row_at s = low_at (plan_fields s.plan) (s.done * plan_fields s.plan)
 
 abbrev pub turned : Stage Rows → Stage Decisions
-turned s = record { plan = s.plan; done = 0 }
+turned s = record { plan = s.plan; done = 0; phase = record {} }
 
 -- a decision of the kind with a code and a size: 16, 17, 4
 abbrev pub decision_refusal : Stage Decisions → ℕ → ℕ → ℕ → Option (ℕ × ℕ)

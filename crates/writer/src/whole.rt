@@ -20,15 +20,9 @@ use routing::widths::Widths;
 
 // The first field of the first rule whose ends make no interval of it.
 fn rows_fault<K: Kind, R: Rules<K>>(widths: Widths, rules: &R) -> Option<u8>
-    ensures value { result ≡ rows_refusal (widths_of widths) (R.Rules.rows rules.now) }
-    ensures eights { result ≡ None → (k : ℕ) → k < length (R.Rules.rows rules.now) → length (slice_index_or (R.Rules.rows rules.now) k blank) ≡ 8 }
+    ensures { result ≡ rows_refusal (widths_of widths) (R.rows rules.now) }
 {
-    for rule in 0..rules.count() {
-        if let Some(field) = widths.ends_fault(&rules.row(rule)) {
-            return Some(field);
-        }
-    }
-    None
+    (0..rules.count()).find_map(|rule| widths.ends_fault(&rules.row(rule)))
 }
 
 // Writes all rows and turns.
@@ -38,11 +32,12 @@ fn put_rows<K: Kind, R: Rules<K>>(
     out: &mut [u8],
 ) -> Result<DecisionStage, WriteFault>
     requires begun { start.done ≡ 0 }
-    requires counted { start.plan.rules ≡ length (R.Rules.rows rules.now) }
+    requires counted { start.plan.rules ≡ length (R.rows rules.now) }
     requires room { plan_length start.plan ≤ length out.old }
-    requires lawful { (k : ℕ) → k < length (R.Rules.rows rules.now) → ends_refusal (widths_of start.plan.widths) (slice_index_or (R.Rules.rows rules.now) k blank) ≡ None }
+    requires lawful { (k : ℕ) → k < length (R.rows rules.now) → ends_refusal (widths_of start.plan.widths) (slice_index_or (R.rows rules.now) k blank) ≡ None }
     ensures answer { result ≡ Ok (turned start) }
-    ensures after { out.new ≡ put (rows_at (plan_fields start.plan)) (rows_bytes (plan_fields start.plan) (R.Rules.rows rules.now)) out.old }
+    ensures after { out.new ≡ put (rows_at (plan_fields start.plan)) (rows_bytes (plan_fields start.plan) (R.rows rules.now)) out.old }
+    ensures eights { (k : ℕ) → k < length (R.rows rules.now) → length (slice_index_or (R.rows rules.now) k blank) ≡ 8 }
 {
     let mut stage = start;
     for rule in 0..rules.count() {
@@ -58,13 +53,13 @@ fn put_decisions<K: Kind, R: Rules<K>>(
     out: &mut [u8],
 ) -> Result<usize, WriteFault>
     requires begun { start.done ≡ 0 }
-    requires counted { start.plan.rules ≡ length (R.Rules.decisions rules.now) }
-    requires of_code { start.plan.code ≡ K.Kind.code }
-    requires of_size { start.plan.size ≡ K.Kind.size }
+    requires counted { start.plan.rules ≡ length (R.decisions rules.now) }
+    requires of_code { start.plan.code ≡ K.code }
+    requires of_size { start.plan.size ≡ K.size }
     requires room { plan_length start.plan ≤ length out.old }
     ensures answer { result ≡ Ok (plan_length start.plan) }
-    ensures after { out.new ≡ put (decisions_at (plan_fields start.plan) start.plan.rules) (flat_map K.Kind.written (R.Rules.decisions rules.now)) out.old }
-    ensures kept { (k : ℕ) → k < length (R.Rules.decisions rules.now) → (x : K) → K.Kind.reading (K.Kind.written (slice_index_or (R.Rules.decisions rules.now) k x)) ≡ slice_index_or (R.Rules.decisions rules.now) k x }
+    ensures after { out.new ≡ put (decisions_at (plan_fields start.plan) start.plan.rules) (flat_map K.written (R.decisions rules.now)) out.old }
+    ensures kept { (k : ℕ) → k < length (R.decisions rules.now) → (x : K) → K.reading (K.written (slice_index_or (R.decisions rules.now) k x)) ≡ slice_index_or (R.decisions rules.now) k x }
 {
     let mut stage = start;
     for rule in 0..rules.count() {
@@ -81,15 +76,15 @@ pub fn write_table<K: Kind, R: Rules<K>>(
     out: &mut [u8],
 ) -> Result<usize, WriteFault>
     ensures answer { MatchResult result
-        (λ n. (table_refusal widths.now (R.Rules.rows rules.now) K.Kind.size (length out.old) ≡ None)
-        × (n ≡ file_length (length widths.now) (length (R.Rules.rows rules.now)) K.Kind.size))
-        (λ e. table_refusal widths.now (R.Rules.rows rules.now) K.Kind.size (length out.old) ≡ Some (write_reason e)) }
-    ensures after { out.new ≡ changed (table_refusal widths.now (R.Rules.rows rules.now) K.Kind.size (length out.old)) out.old
-        (put 0 (file_bytes K.Kind.written K.Kind.code widths.now (R.Rules.rows rules.now) (R.Rules.decisions rules.now)) out.old) }
-    ensures again { table_refusal widths.now (R.Rules.rows rules.now) K.Kind.size (length out.old) ≡ None →
-        ReadsAs K.Kind.reading K.Kind.code K.Kind.size
-        (file_bytes K.Kind.written K.Kind.code widths.now (R.Rules.rows rules.now) (R.Rules.decisions rules.now))
-        widths.now (R.Rules.rows rules.now) (R.Rules.decisions rules.now) }
+        (λ n. (table_refusal widths.now (R.rows rules.now) K.size (length out.old) ≡ None)
+        × (n ≡ file_length (length widths.now) (length (R.rows rules.now)) K.size))
+        (λ e. table_refusal widths.now (R.rows rules.now) K.size (length out.old) ≡ Some (write_reason e)) }
+    ensures after { out.new ≡ changed (table_refusal widths.now (R.rows rules.now) K.size (length out.old)) out.old
+        (put 0 (file_bytes K.written K.code widths.now (R.rows rules.now) (R.decisions rules.now)) out.old) }
+    ensures again { table_refusal widths.now (R.rows rules.now) K.size (length out.old) ≡ None →
+        ReadsAs K.reading K.code K.size
+        (file_bytes K.written K.code widths.now (R.rows rules.now) (R.decisions rules.now))
+        widths.now (R.rows rules.now) (R.decisions rules.now) }
 {
     let plan = Plan::test::<K>(widths, rules.count(), out.len())?;
     if let Some(field) = rows_fault(plan.widths, rules) {

@@ -1,26 +1,18 @@
 // Writing a file in stages.
-ghost use Rattle.std.specs.Prelude.{◌≡◌, ◌+◌, ◌*◌, ◌<◌, ◌≤◌, ◌++◌, length, Some, None, MatchResult};
+ghost use Rattle.std.specs.Prelude.{◌≡◌, ◌+◌, ◌≤◌, ◌++◌, length, Some, None, MatchResult};
 ghost use Rattle.std.specs.Option.{option_map};
 ghost use Rattle.routing.specs.Fields.{widths_of};
 ghost use Rattle.fault.specs.Faults.{write_reason};
-ghost use Rattle.file.specs.Layout.{file_length, low_at, decisions_at};
-ghost use Rattle.writer.specs.Stages.{put, row_bytes, head_bytes, plan_fields, plan_length, Planned, Begun, start_refusal, ready_refusal, row_refusal, decision_refusal, early_refusal, next_stage, turned, step_told, judged, changed, row_at, decision_place};
+ghost use Rattle.writer.specs.Stages.{put, row_bytes, head_bytes, plan_fields, plan_layout, plan_length, Planned, Begun, room_refusal, start_refusal, ready_refusal, row_refusal, decision_refusal, early_refusal, next_stage, turned, step_told, judged, changed, row_at, decision_place};
 
 use crate::place::{put_decision, put_front, put_row};
 use crate::stage::{DecisionStage, Plan, Refused, RowStage, Stage};
 use decision::kind::Kind;
 use fault::writing::WriteFault;
+use file::layout::Layout;
 use routing::ends::Ends;
 use routing::widths::Widths;
 use std::marker::PhantomData;
-
-// The bytes of a file.
-fn length_of(d: usize, n: usize, size: usize) -> usize
-    requires { (d ≤ 8) × ((n < 65536) × (size < 65536)) }
-    ensures { result ≡ file_length d n size }
-{
-    16 + d + 8 * (d * n) + n * size
-}
 
 impl Plan {
     // What a start tests, for a buffer of a length.
@@ -33,45 +25,56 @@ impl Plan {
             (λ p. (start_refusal widths.now rules K.size room ≡ None) × Planned widths.now rules K.code K.size p)
             (λ e. start_refusal widths.now rules K.size room ≡ Some (write_reason e)) }
     {
-        let tested = Widths::test(widths)?;
+        let widths = Widths::test(widths)?;
         if rules > 512 {
             return Err(WriteFault::Rules);
         }
-        let size = K::decision_size();
-        let needed = length_of(widths.len(), rules, size);
+        let plan = Plan {
+            widths,
+            rules: rules as u16,
+            code: K::kind_code(),
+            size: K::decision_size() as u16,
+        };
+        plan.room_test(room)?;
+        Ok(plan)
+    }
+
+    pub(crate) fn layout(self) -> Layout
+        ensures { result ≡ plan_layout self }
+    {
+        Layout {
+            fields: self.widths.fields() as u8,
+            rules: self.rules,
+            size: self.size,
+        }
+    }
+
+    // Room for the whole file.
+    fn room_test(self, room: usize) -> Result<(), WriteFault>
+        ensures { MatchResult result
+            (λ _. room_refusal (plan_length self) room ≡ None)
+            (λ e. room_refusal (plan_length self) room ≡ Some (write_reason e)) }
+    {
+        let needed = self.layout().length();
         if room < needed {
             return Err(WriteFault::Room(needed));
         }
-        Ok(Plan {
-            widths: tested,
-            rules: rules as u16,
-            code: K::kind_code(),
-            size: size as u16,
-        })
+        Ok(())
     }
 
     // Writes the header and the widths.
     pub(crate) fn start(self, widths: &[u8], out: &mut [u8]) -> RowStage
-        requires { (length widths.now ≤ 8) × ((self.rules ≤ 512) × (16 + length widths.now ≤ length out.old)) }
-        ensures answer { result ≡ record { plan = self; done = 0 } }
+        requires of_widths { widths.now ≡ widths_of self.widths }
+        requires room { 16 + length widths.now ≤ length out.old }
+        ensures answer { result ≡ record { plan = self; done = 0; phase = record {} } }
         ensures after { out.new ≡ put 0 (head_bytes (length widths.now) self.rules self.code ++ widths.now) out.old }
     {
-        put_front(out, widths, self.rules, self.code);
+        put_front(out, widths, self.layout(), self.code);
         Stage {
             plan: self,
             done: 0,
             phase: PhantomData,
         }
-    }
-
-    pub(crate) fn length(self) -> usize
-        ensures { result ≡ plan_length self }
-    {
-        length_of(
-            self.widths.fields(),
-            self.rules as usize,
-            self.size as usize,
-        )
     }
 }
 
@@ -82,10 +85,7 @@ impl<P> Stage<P> {
             (λ _. ready_refusal self.now room ≡ None)
             (λ e. ready_refusal self.now room ≡ Some (write_reason e)) }
     {
-        let needed = self.plan.length();
-        if room < needed {
-            return Err(WriteFault::Room(needed));
-        }
+        self.plan.room_test(room)?;
         if self.done >= self.plan.rules {
             return Err(WriteFault::Count(self.done as usize));
         }
@@ -151,8 +151,8 @@ impl RowStage {
         if let Err(fault) = self.row_test(out.len(), &ends) {
             return Err(Refused { stage: self, fault });
         }
-        let d = self.plan.widths.fields();
-        put_row(out, 16 + d + 8 * (self.done as usize * d), d, &ends);
+        let at = self.plan.layout().row(self.done);
+        put_row(out, at, &ends[..self.plan.widths.fields()]);
         self.done += 1;
         Ok(self)
     }
@@ -171,7 +171,7 @@ impl RowStage {
         } = self;
         Ok(Stage {
             plan,
-            done: 0,
+            done: 0, // no decision yet
             phase: PhantomData,
         })
     }
@@ -205,8 +205,7 @@ impl DecisionStage {
         if let Err(fault) = self.decision_test::<K>(out.len()) {
             return Err(Refused { stage: self, fault });
         }
-        let d = self.plan.widths.fields();
-        let at = 16 + d + 8 * (d * self.plan.rules as usize) + self.done as usize * self.plan.size as usize;
+        let at = self.plan.layout().decision(self.done);
         put_decision(out, at, decision);
         self.done += 1;
         Ok(self)
@@ -219,7 +218,7 @@ impl DecisionStage {
         if let Err(fault) = self.complete() {
             return Err(Refused { stage: self, fault });
         }
-        let length = self.plan.length();
+        let length = self.plan.layout().length();
         self.abandon();
         Ok(length)
     }
