@@ -6,7 +6,7 @@ ghost use Rattle.decision.specs.Bytes.{front};
 pub fn byte_at(bytes: &[u8], place: usize) -> u8
     ensures { result ≡ slice_index bytes.now place }
 {
-    if place < bytes.len() { bytes[place] } else { 0 }
+    bytes.get(place).copied().unwrap_or(0)
 }
 
 // Copies bytes to the front of a buffer, as far as it reaches.
@@ -14,5 +14,5 @@ pub(crate) fn put_front(bytes: &[u8], out: &mut [u8])
     ensures { out.new ≡ front bytes.now out.old }
 {
     let n = bytes.len().min(out.len());
-    out[0..n].copy_from_slice(&bytes[0..n]);
+    out[..n].copy_from_slice(&bytes[..n]);
 }

@@ -1,20 +1,17 @@
 // The decision that is a handling: a queue with a service class, a keep time and a note.
 ghost use Rattle.std.specs.Prelude.{◌≡◌};
+ghost use Rattle.std.proofs.Common.{rules};
+ghost use Rattle.std.proofs.lemmas.Grind.{common_steps};
 ghost use Rattle.decision.specs.Classes.{class_code};
 ghost use Rattle.decision.specs.Kinds.{same_handling, handling_bytes, handling_of};
-ghost use Rattle.decision.specs.Laws.{handling_equivalence, handling_small, handling_sized, handling_again};
 
 use crate::bytes::{byte_at, put_front};
 use crate::class::Class;
 use crate::kind::Kind;
 use std::fmt;
 
-const CODE: u8 = 2;
-
-const SIZE: usize = 6;
-
 // As it lies in memory: the class is its bare code, so that no type with an invariant lies in a slice.
-#[derive(Clone, Copy, PartialEq, Eq)]
+#[derive(Clone, Copy, Debug, PartialEq, Eq, Hash)]
 pub struct Handling {
     pub queue: u8,
     class: u8,
@@ -29,7 +26,7 @@ impl Handling {
     {
         Handling {
             queue,
-            class: class.code(),
+            class: class.into(),
             keep,
             note,
         }
@@ -38,39 +35,33 @@ impl Handling {
     pub fn class(self) -> Class
         ensures { class_code result ≡ self.class }
     {
-        Class::of(self.class)
+        Class::from(self.class)
     }
 }
 
 impl Kind for Handling {
     ghost alike = { same_handling };
 
-    ghost code = { 2 };
+    const CODE: u8 = 2;
 
-    ghost size = { 6 };
+    ghost CODE = { 2 };
+
+    const SIZE: u16 = 6;
+
+    ghost SIZE = { 6 };
 
     ghost written = { handling_bytes };
 
     ghost reading = { handling_of };
 
-    ghost equivalence = { handling_equivalence };
+    ghost equivalence = { Prim.search rules };
 
-    ghost small = { handling_small };
+    ghost sized = { Prim.search rules };
 
-    ghost sized = { handling_sized };
-
-    ghost again = { handling_again };
+    ghost again = { Prim.search (rules, common_steps) };
 
     fn same(self, other: Handling) -> bool {
         self.queue == other.queue && self.class == other.class
-    }
-
-    fn kind_code() -> u8 {
-        CODE
-    }
-
-    fn decision_size() -> usize {
-        SIZE
     }
 
     fn write(self, out: &mut [u8]) {
@@ -96,10 +87,13 @@ impl Kind for Handling {
 
 impl fmt::Display for Handling {
     fn fmt<W: fmt::Write>(&self, f: &mut fmt::Formatter<W>) -> fmt::Result {
-        let queue = self.queue;
-        let class = self.class();
-        let keep = self.keep;
-        let note = self.note;
-        write!(f, "queue {queue}, class {class}, keep {keep}, note {note}")
+        write!(
+            f,
+            "queue {}, class {}, keep {}, note {}",
+            self.queue,
+            self.class(),
+            self.keep,
+            self.note,
+        )
     }
 }

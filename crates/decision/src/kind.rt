@@ -1,5 +1,5 @@
 // Kinds of decision.
-ghost use Rattle.std.specs.Prelude.{◌≡◌, ℕ, ◌<◌, ◌≤◌, Bool, List, length, slice_index};
+ghost use Rattle.std.specs.Prelude.{◌≡◌, ℕ, ◌<◌, Bool, List, length, slice_index};
 ghost use Rattle.decision.specs.Bytes.{front};
 ghost use Rattle.decision.specs.Kinds.{Equivalence};
 
@@ -7,24 +7,22 @@ ghost use Rattle.decision.specs.Kinds.{Equivalence};
 pub trait Kind: Copy {
     ghost alike: { Self → Self → Bool };
 
-    ghost code: { ℕ };
-
-    ghost size: { ℕ };
-
     ghost written: { Self → List ℕ };
 
     ghost reading: { List ℕ → Self };
 
-    fn same(self, other: Self) -> bool
-        ensures { result ≡ alike self other };
-
     // The number that stands for the kind in a file.
-    fn kind_code() -> u8
-        ensures { result ≡ code };
+    const CODE: u8;
+
+    ghost CODE: { ℕ };
 
     // The bytes of one decision.
-    fn decision_size() -> usize
-        ensures { result ≡ size };
+    const SIZE: u16;
+
+    ghost SIZE: { ℕ };
+
+    fn same(self, other: Self) -> bool
+        ensures { result ≡ alike self other };
 
     // Writes the decision to the front of a buffer, as far as it reaches. What was written reads as the same decision again.
     fn write(self, out: &mut [u8])
@@ -37,10 +35,8 @@ pub trait Kind: Copy {
 
     ghost equivalence: { Equivalence alike };
 
-    ghost small: { size < 65536 };
-
-    ghost sized: { (x : Self) → length (written x) ≡ size };
+    ghost sized: { (x : Self) → length (written x) ≡ SIZE };
 
     // Bytes that are read and written again are the same.
-    ghost again: { (bs : List ℕ) → length bs ≡ size → ((k : ℕ) → slice_index bs k < 256) → written (reading bs) ≡ bs };
+    ghost again: { (bs : List ℕ) → length bs ≡ SIZE → ((k : ℕ) → slice_index bs k < 256) → written (reading bs) ≡ bs };
 }

@@ -1,16 +1,13 @@
 // The decision that is a queue.
+ghost use Rattle.std.proofs.Common.{rules};
+ghost use Rattle.std.proofs.lemmas.Grind.{common_steps};
 ghost use Rattle.decision.specs.Kinds.{same_queue, queue_bytes, queue_of};
-ghost use Rattle.decision.specs.Laws.{queue_equivalence, queue_small, queue_sized, queue_again};
 
 use crate::bytes::{byte_at, put_front};
 use crate::kind::Kind;
 use std::fmt;
 
-const CODE: u8 = 1;
-
-const SIZE: usize = 1;
-
-#[derive(Clone, Copy, PartialEq, Eq)]
+#[derive(Clone, Copy, Debug, PartialEq, Eq, Hash)]
 pub struct Queue {
     pub queue: u8,
 }
@@ -18,32 +15,26 @@ pub struct Queue {
 impl Kind for Queue {
     ghost alike = { same_queue };
 
-    ghost code = { 1 };
+    const CODE: u8 = 1;
 
-    ghost size = { 1 };
+    ghost CODE = { 1 };
+
+    const SIZE: u16 = 1;
+
+    ghost SIZE = { 1 };
 
     ghost written = { queue_bytes };
 
     ghost reading = { queue_of };
 
-    ghost equivalence = { queue_equivalence };
+    ghost equivalence = { Prim.search rules };
 
-    ghost small = { queue_small };
+    ghost sized = { Prim.search rules };
 
-    ghost sized = { queue_sized };
-
-    ghost again = { queue_again };
+    ghost again = { Prim.search (rules, common_steps) };
 
     fn same(self, other: Queue) -> bool {
-        self.queue == other.queue
-    }
-
-    fn kind_code() -> u8 {
-        CODE
-    }
-
-    fn decision_size() -> usize {
-        SIZE
+        self == other
     }
 
     fn write(self, out: &mut [u8]) {
@@ -59,7 +50,6 @@ impl Kind for Queue {
 
 impl fmt::Display for Queue {
     fn fmt<W: fmt::Write>(&self, f: &mut fmt::Formatter<W>) -> fmt::Result {
-        let queue = self.queue;
-        write!(f, "queue {queue}")
+        write!(f, "queue {}", self.queue)
     }
 }

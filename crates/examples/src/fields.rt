@@ -91,21 +91,21 @@ fn both_ends_are_included(rt: HostRuntime) {
 
 #[test]
 fn handlings_by_queue_and_class(rt: HostRuntime) {
-    let nine = Handling::new(3, Class::of(9), 30, 1);
+    let nine = Handling::new(3, Class::from(9), 30, 1);
     assert_eq!(rt;
-        nine.class().code(),
+        u8::from(nine.class()),
         9,
         "a class without a name keeps its code"
     );
     assert!(rt;
-        nine.same(Handling::new(3, Class::of(9), 45, 2)),
+        nine.same(Handling::new(3, Class::from(9), 45, 2)),
         "keep time and note do not count"
     );
     assert!(rt;
         !nine.same(Handling::new(3, Class::Ordinary, 30, 1)),
         "class 9 is not class 0"
     );
-    assert!(rt; !nine.same(Handling::new(4, Class::of(9), 30, 1)));
+    assert!(rt; !nine.same(Handling::new(4, Class::from(9), 30, 1)));
 }
 
 #[test]

@@ -4,6 +4,7 @@ use decision::queue::Queue;
 use file::reader::TableFile;
 use file::rules::Rules;
 use routing::ends::Ends;
+use routing::refusal::Refusal;
 use std::test::Fail;
 
 // One field of eight bits; [10, 60] to queue 5, [61, 120] to queue 7.
@@ -22,7 +23,7 @@ fn told(bytes: &[u8]) -> (u8, usize) {
     match TableFile::<Queue>::open(bytes) {
         Ok(_) => (0, 0),
         Err(fault) => {
-            let refusal = fault.refusal();
+            let refusal = Refusal::from(fault);
             (refusal.number, refusal.place)
         }
     }
@@ -64,7 +65,7 @@ fn a_lawful_file(rt: HostRuntime) -> Result<(), Fail> {
 fn a_class_without_a_name(rt: HostRuntime) -> Result<(), Fail> {
     let file = TableFile::<Handling>::open(&HANDLING)?;
     let decision = file.decision(0).ok_or("no decision")?;
-    assert_eq!(rt; decision.class().code(), 9);
+    assert_eq!(rt; u8::from(decision.class()), 9);
     assert_eq!(rt; decision.keep, 300);
     Ok(())
 }

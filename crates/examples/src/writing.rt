@@ -6,6 +6,7 @@ use fault::writing::{RewriteFault, WriteFault};
 use file::reader::TableFile;
 use file::rules::{RuleList, Rules};
 use routing::ends::Ends;
+use routing::refusal::Refusal;
 use routing::rule::Rule;
 use std::test::Fail;
 use writer::stage::{DecisionStage, DecisionStep, EndStep, RowStage, RowStep, TurnStep};
@@ -21,7 +22,7 @@ fn one_field(low: u32, high: u32) -> [Ends; 8] {
 
 // The number and the place of a refusal.
 fn told(fault: WriteFault) -> (u8, usize) {
-    let refusal = fault.refusal();
+    let refusal = Refusal::from(fault);
     (refusal.number, refusal.place)
 }
 

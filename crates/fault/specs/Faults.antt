@@ -1,5 +1,5 @@
 -- The number and the place of each fault. Assumes nothing.
-use Rattle.std.specs.Prelude.{ℕ}
+use Rattle.std.specs.Prelude.{ℕ, ◌+◌}
 use Rattle.routing.specs.Refusals.{told_by}
 use Rattle.routing.specs.declared.refusal.Refusal.{Refusal}
 use Rattle.routing.specs.declared.refusal.Layer.TheVariants.{File, Writer}
@@ -31,6 +31,11 @@ write_reason (w.Width field) = (8, field)
 write_reason (w.Ends field) = (9, field)
 write_reason (w.Room needed) = (16, needed)
 write_reason (w.Count done) = (17, done)
+
+-- a fault of the widths of a file, told by its byte
+abbrev pub file_of : WidthsFault → FileFault
+file_of v.Fields = f.Fields
+file_of (v.Width field) = f.Width (15 + field)
 
 -- a fault of the widths, as the writer tells it
 abbrev pub write_of : WidthsFault → WriteFault

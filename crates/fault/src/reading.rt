@@ -1,41 +1,49 @@
 // Why a file is refused.
 ghost use Rattle.std.specs.Prelude.{◌≡◌};
-ghost use Rattle.routing.specs.Refusals.{told_by};
-ghost use Rattle.routing.specs.declared.refusal.Layer.TheVariants.{File as FileLayer};
-ghost use Rattle.fault.specs.Faults.{file_reason};
 
 use routing::refusal::{Layer, Refusal};
-use std::fmt;
+use routing::widths::WidthsFault;
+use thiserror::Error;
 
 // Places are bytes of the file, counted from 0, or its length.
-#[derive(Clone, Copy, Debug)]
+#[derive(Clone, Copy, Debug, PartialEq, Eq, Hash, Error)]
 pub enum FileFault {
-    // fewer than 16 bytes: the length
+    // its length
+    #[error("the file is shorter than its header of 16 bytes (place {0})")]
     Short(usize),
     // the edition is not 1, or a byte that must be 0 is not: that byte
+    #[error("a byte is not what every file of edition 1 has there (place {0})")]
     Fixed(usize),
-    // not 1 to 8 fields
+    #[error("there are not 1 to 8 fields (place 1)")]
     Fields,
-    // another kind of decision
+    #[error("the decisions are of another kind (place 2)")]
     Kind,
-    // more than 512 rules
+    #[error("there are more than 512 rules (place 4)")]
     Rules,
-    // an offset that is not the one that the counts give: its first byte
+    // its first byte
+    #[error("an offset is not the one that the counts give (place {0})")]
     Offset(usize),
-    // a length that is not the one that the counts give
+    // the length of the file
+    #[error("the length is not the one that the counts give (place {0})")]
     Length(usize),
-    // a width that is not 1 to 32: its byte
+    // its byte
+    #[error("a width is not 1 to 32 (place {0})")]
     Width(usize),
-    // ends that make no interval of their field: the first byte of the low end
+    // the first byte of the low end
+    #[error("two ends make no interval of their field (place {0})")]
     Ends(usize),
 }
 
-impl FileFault {
-    // What it tells.
-    pub fn refusal(self) -> Refusal
-        ensures { result ≡ told_by FileLayer (file_reason self) }
-    {
-        let (number, place) = match self {
+// What it tells.
+impl From<FileFault> for Refusal {
+    ghost use Rattle.routing.specs.Refusals.{told_by};
+    ghost use Rattle.routing.specs.declared.refusal.Layer.TheVariants.{File as FileLayer};
+    ghost use Rattle.fault.specs.Faults.{file_reason};
+
+    ghost from_gives = { λ f r. r ≡ told_by FileLayer (file_reason f) };
+
+    fn from(value: FileFault) -> Refusal {
+        let (number, place) = match value {
             FileFault::Short(place) => (1, place),
             FileFault::Fixed(place) => (2, place),
             FileFault::Fields => (3, 1),
@@ -54,20 +62,16 @@ impl FileFault {
     }
 }
 
-impl fmt::Display for FileFault {
-    fn fmt<W: fmt::Write>(&self, f: &mut fmt::Formatter<W>) -> fmt::Result {
-        let words = match self {
-            FileFault::Short(_) => "the file is shorter than its header of 16 bytes",
-            FileFault::Fixed(_) => "a byte is not what every file of edition 1 has there",
-            FileFault::Fields => "there are not 1 to 8 fields",
-            FileFault::Kind => "the decisions are of another kind",
-            FileFault::Rules => "there are more than 512 rules",
-            FileFault::Offset(_) => "an offset is not the one that the counts give",
-            FileFault::Length(_) => "the length is not the one that the counts give",
-            FileFault::Width(_) => "a width is not 1 to 32",
-            FileFault::Ends(_) => "two ends make no interval of their field",
-        };
-        let place = self.refusal().place;
-        write!(f, "{words} (place {place})")
+// By hand, as a derived From has no contract. The widths of a file begin at byte 16.
+impl From<WidthsFault> for FileFault {
+    ghost use Rattle.fault.specs.Faults.{file_of};
+
+    ghost from_gives = { λ f r. r ≡ file_of f };
+
+    fn from(value: WidthsFault) -> FileFault {
+        match value {
+            WidthsFault::Fields => FileFault::Fields,
+            WidthsFault::Width(field) => FileFault::Width(15 + usize::from(field)),
+        }
     }
 }

@@ -1,45 +1,48 @@
 // Why a step of writing is refused.
 ghost use Rattle.std.specs.Prelude.{◌≡◌};
-ghost use Rattle.routing.specs.Refusals.{told_by};
-ghost use Rattle.routing.specs.declared.refusal.Layer.TheVariants.{Writer as WriterLayer};
-ghost use Rattle.fault.specs.Faults.{write_reason, write_of, rewrite_told};
-ghost use Rattle.fault.specs.declared.writing.RewriteFault.TheVariants.{Read, Write};
 
 use crate::reading::FileFault;
 use routing::refusal::{Layer, Refusal};
 use routing::widths::WidthsFault;
-use std::fmt;
+use thiserror::Error;
 
 // Places are fields, counted from 1, or numbers of bytes, rows or decisions.
-#[derive(Clone, Copy, Debug)]
+#[derive(Clone, Copy, Debug, PartialEq, Eq, Hash, Error)]
 pub enum WriteFault {
-    // not 1 to 8 fields
+    #[error("there are not 1 to 8 fields (place 1)")]
     Fields,
-    // the width of this field is not 1 to 32
+    #[error("the width of a field is not 1 to 32 (place {0})")]
     Width(u8),
-    // more than 512 rules
+    #[error("there are more than 512 rules (place 4)")]
     Rules,
-    // the file needs so many bytes, and the buffer has fewer
+    // the bytes that the file needs
+    #[error("the buffer is shorter than the file (place {0})")]
     Room(usize),
-    // a row or a decision too many, or a turn or an end too early, after so many
+    // after so many
+    #[error("a row or a decision too many, or a turn or an end too early (place {0})")]
     Count(usize),
-    // a decision of another kind than the file was started for
+    // the file was started for that kind
+    #[error("the decision is of another kind than the file (place 2)")]
     Kind,
-    // the ends at this field make no interval of it
+    #[error("two ends make no interval of their field (place {0})")]
     Ends(u8),
 }
 
-impl WriteFault {
-    // What it tells.
-    pub fn refusal(self) -> Refusal
-        ensures { result ≡ told_by WriterLayer (write_reason self) }
-    {
-        let (number, place) = match self {
+// What it tells.
+impl From<WriteFault> for Refusal {
+    ghost use Rattle.routing.specs.Refusals.{told_by};
+    ghost use Rattle.routing.specs.declared.refusal.Layer.TheVariants.{Writer as WriterLayer};
+    ghost use Rattle.fault.specs.Faults.{write_reason};
+
+    ghost from_gives = { λ f r. r ≡ told_by WriterLayer (write_reason f) };
+
+    fn from(value: WriteFault) -> Refusal {
+        let (number, place) = match value {
             WriteFault::Fields => (3, 1),
             WriteFault::Kind => (4, 2),
             WriteFault::Rules => (5, 4),
-            WriteFault::Width(field) => (8, field as usize),
-            WriteFault::Ends(field) => (9, field as usize),
+            WriteFault::Width(field) => (8, usize::from(field)),
+            WriteFault::Ends(field) => (9, usize::from(field)),
             WriteFault::Room(place) => (16, place),
             WriteFault::Count(place) => (17, place),
         };
@@ -51,23 +54,10 @@ impl WriteFault {
     }
 }
 
-impl fmt::Display for WriteFault {
-    fn fmt<W: fmt::Write>(&self, f: &mut fmt::Formatter<W>) -> fmt::Result {
-        let words = match self {
-            WriteFault::Fields => "there are not 1 to 8 fields",
-            WriteFault::Width(_) => "the width of a field is not 1 to 32",
-            WriteFault::Rules => "there are more than 512 rules",
-            WriteFault::Room(_) => "the buffer is shorter than the file",
-            WriteFault::Count(_) => "a row or a decision too many, or a turn or an end too early",
-            WriteFault::Kind => "the decision is of another kind than the file",
-            WriteFault::Ends(_) => "two ends make no interval of their field",
-        };
-        let place = self.refusal().place;
-        write!(f, "{words} (place {place})")
-    }
-}
-
+// By hand, as the two below, since a derived From has no contract.
 impl From<WidthsFault> for WriteFault {
+    ghost use Rattle.fault.specs.Faults.{write_of};
+
     ghost from_gives = { λ f r. r ≡ write_of f };
 
     fn from(value: WidthsFault) -> WriteFault {
@@ -79,25 +69,31 @@ impl From<WidthsFault> for WriteFault {
 }
 
 // Why a file is not written again: it was refused as it was read, or as it was written.
-#[derive(Clone, Copy, Debug)]
+#[derive(Clone, Copy, Debug, PartialEq, Eq, Hash, Error)]
 pub enum RewriteFault {
+    #[error(transparent)]
     Read(FileFault),
+    #[error(transparent)]
     Write(WriteFault),
 }
 
-impl RewriteFault {
-    // What it tells.
-    pub fn refusal(self) -> Refusal
-        ensures { result ≡ rewrite_told self }
-    {
-        match self {
-            RewriteFault::Read(fault) => fault.refusal(),
-            RewriteFault::Write(fault) => fault.refusal(),
+// What it tells.
+impl From<RewriteFault> for Refusal {
+    ghost use Rattle.fault.specs.Faults.{rewrite_told};
+
+    ghost from_gives = { λ f r. r ≡ rewrite_told f };
+
+    fn from(value: RewriteFault) -> Refusal {
+        match value {
+            RewriteFault::Read(fault) => fault.into(),
+            RewriteFault::Write(fault) => fault.into(),
         }
     }
 }
 
 impl From<FileFault> for RewriteFault {
+    ghost use Rattle.fault.specs.declared.writing.RewriteFault.TheVariants.{Read};
+
     ghost from_gives = { λ f r. r ≡ Read f };
 
     fn from(value: FileFault) -> RewriteFault {
@@ -106,18 +102,11 @@ impl From<FileFault> for RewriteFault {
 }
 
 impl From<WriteFault> for RewriteFault {
+    ghost use Rattle.fault.specs.declared.writing.RewriteFault.TheVariants.{Write};
+
     ghost from_gives = { λ f r. r ≡ Write f };
 
     fn from(value: WriteFault) -> RewriteFault {
         RewriteFault::Write(value)
-    }
-}
-
-impl fmt::Display for RewriteFault {
-    fn fmt<W: fmt::Write>(&self, f: &mut fmt::Formatter<W>) -> fmt::Result {
-        match self {
-            RewriteFault::Read(fault) => write!(f, "{fault}"),
-            RewriteFault::Write(fault) => write!(f, "{fault}"),
-        }
     }
 }
