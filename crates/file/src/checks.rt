@@ -3,7 +3,7 @@ ghost use Rattle.std.specs.Prelude.{◌≡◌, ℕ, ◌+◌, ◌*◌, ◌<◌, �
 ghost use Rattle.std.specs.Option.{option_map};
 ghost use Rattle.routing.specs.Fields.{widths_of};
 ghost use Rattle.routing.specs.Firsts.{first_some};
-ghost use Rattle.file.specs.Layout.{header_refusal, counts_refusal, body_refusal, row_place, at_byte, fields, rules, width_bytes, pair, row_of};
+ghost use Rattle.file.specs.Layout.{header_refusal, counts_refusal, body_refusal, row_place, fields, rules, width_bytes, pair, row_of};
 ghost use Rattle.routing.specs.Refusals.{widths_reason};
 ghost use Rattle.fault.specs.Faults.{file_reason};
 
@@ -128,20 +128,10 @@ pub fn body_fault(bytes: &[u8], size: usize) -> Option<FileFault>
     }
     let widths = match Widths::test(&bytes[16..16 + d]) {
         Ok(widths) => widths,
-        Err(fault) => return Some(width_fault(fault)),
+        Err(fault) => return Some(FileFault::from(fault)),
     };
     if let Some(place) = rows_fault(bytes, widths, d, n) {
         return Some(FileFault::Ends(place));
     }
     None
-}
-
-// A fault of the widths by its byte. How many fields there are was tested before.
-fn width_fault(fault: WidthsFault) -> FileFault
-    ensures { file_reason result ≡ at_byte (widths_reason fault) }
-{
-    match fault {
-        WidthsFault::Fields => FileFault::Fields,
-        WidthsFault::Width(field) => FileFault::Width(15 + field as usize),
-    }
 }

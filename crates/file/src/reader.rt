@@ -20,20 +20,20 @@ pub struct TableFile<'a, K> {
 
 // The first rule that a file for decisions of the kind K breaks.
 fn first_fault<K: Kind>(bytes: &[u8]) -> Option<FileFault>
-    ensures { option_map file_reason result ≡ file_refusal bytes.now K.code K.size }
+    ensures { option_map file_reason result ≡ file_refusal bytes.now K.CODE K.SIZE }
 {
-    if let Some(fault) = header_fault(bytes, K::kind_code()) {
+    if let Some(fault) = header_fault(bytes, K::CODE) {
         return Some(fault);
     }
-    body_fault(bytes, K::decision_size())
+    body_fault(bytes, usize::from(K::SIZE))
 }
 
 impl<'a, K: Kind> TableFile<'a, K> {
     // The file, or the first rule that it breaks.
     pub fn open(bytes: &'a [u8]) -> Result<TableFile<'a, K>, FileFault>
         ensures { MatchResult result
-            (λ f. (file_refusal bytes.now K.code K.size ≡ None) × (f.bytes.now ≡ bytes.now))
-            (λ e. file_refusal bytes.now K.code K.size ≡ Some (file_reason e)) }
+            (λ f. (file_refusal bytes.now K.CODE K.SIZE ≡ None) × (f.bytes.now ≡ bytes.now))
+            (λ e. file_refusal bytes.now K.CODE K.SIZE ≡ Some (file_reason e)) }
     {
         if let Some(fault) = first_fault::<K>(bytes) {
             return Err(fault);

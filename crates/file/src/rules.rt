@@ -33,7 +33,7 @@ pub trait Rules<K: Kind> {
 impl<'a, K: Kind> Rules<K> for TableFile<'a, K> {
     ghost rows = { λ f. rows_of f.bytes.now };
 
-    ghost decisions = { λ f. decisions_of K.Kind.reading K.Kind.size f.bytes.now };
+    ghost decisions = { λ f. decisions_of K.Kind.reading K.Kind.SIZE f.bytes.now };
 
     fn count(&self) -> usize {
         count_of::<K>(self.bytes)
@@ -50,7 +50,7 @@ impl<'a, K: Kind> Rules<K> for TableFile<'a, K> {
 
 fn count_of<K: Kind>(bytes: &[u8]) -> usize
     ensures of_rows { result ≡ length (rows_of bytes.now) }
-    ensures of_decisions { result ≡ length (decisions_of K.reading K.size bytes.now) }
+    ensures of_decisions { result ≡ length (decisions_of K.reading K.SIZE bytes.now) }
 {
     two_at(bytes, 4) as usize
 }
@@ -66,14 +66,14 @@ fn row_of(bytes: &[u8], rule: usize) -> [Ends; 8]
 }
 
 fn decision_of<K: Kind>(bytes: &[u8], rule: usize) -> Option<K>
-    ensures { result ≡ slice_get (decisions_of K.reading K.size bytes.now) rule }
+    ensures { result ≡ slice_get (decisions_of K.reading K.SIZE bytes.now) rule }
 {
     let d = byte_at(bytes, 1) as usize;
     let n = two_at(bytes, 4) as usize;
     if rule >= n {
         return None;
     }
-    let size = K::decision_size();
+    let size = usize::from(K::SIZE);
     Some(K::read(part_of(bytes, decision_place(d, n, rule, size), size)))
 }
 
