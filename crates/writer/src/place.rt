@@ -70,10 +70,10 @@ pub fn put_front(out: &mut [u8], widths: &[u8], layout: Layout, code: u8)
 }
 
 pub fn put_decision<K: Kind>(out: &mut [u8], at: usize, decision: K)
-    requires { at + K.size ≤ length out.old }
+    requires { at + K.SIZE ≤ length out.old }
     ensures after { out.new ≡ put at (K.written decision) out.old }
     ensures kept { K.reading (K.written decision) ≡ decision }
 {
-    let to = at + K::decision_size();
+    let to = at + usize::from(K::SIZE);
     decision.write(&mut out[at..to]);
 }

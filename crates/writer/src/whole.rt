@@ -54,8 +54,8 @@ fn put_decisions<K: Kind, R: Rules<K>>(
 ) -> Result<usize, WriteFault>
     requires begun { start.done ≡ 0 }
     requires counted { start.plan.rules ≡ length (R.decisions rules.now) }
-    requires of_code { start.plan.code ≡ K.code }
-    requires of_size { start.plan.size ≡ K.size }
+    requires of_code { start.plan.code ≡ K.CODE }
+    requires of_size { start.plan.size ≡ K.SIZE }
     requires room { plan_length start.plan ≤ length out.old }
     ensures answer { result ≡ Ok (plan_length start.plan) }
     ensures after { out.new ≡ put (decisions_at (plan_fields start.plan) start.plan.rules) (flat_map K.written (R.decisions rules.now)) out.old }
@@ -76,14 +76,14 @@ pub fn write_table<K: Kind, R: Rules<K>>(
     out: &mut [u8],
 ) -> Result<usize, WriteFault>
     ensures answer { MatchResult result
-        (λ n. (table_refusal widths.now (R.rows rules.now) K.size (length out.old) ≡ None)
-        × (n ≡ file_length (length widths.now) (length (R.rows rules.now)) K.size))
-        (λ e. table_refusal widths.now (R.rows rules.now) K.size (length out.old) ≡ Some (write_reason e)) }
-    ensures after { out.new ≡ changed (table_refusal widths.now (R.rows rules.now) K.size (length out.old)) out.old
-        (put 0 (file_bytes K.written K.code widths.now (R.rows rules.now) (R.decisions rules.now)) out.old) }
-    ensures again { table_refusal widths.now (R.rows rules.now) K.size (length out.old) ≡ None →
-        ReadsAs K.reading K.code K.size
-        (file_bytes K.written K.code widths.now (R.rows rules.now) (R.decisions rules.now))
+        (λ n. (table_refusal widths.now (R.rows rules.now) K.SIZE (length out.old) ≡ None)
+        × (n ≡ file_length (length widths.now) (length (R.rows rules.now)) K.SIZE))
+        (λ e. table_refusal widths.now (R.rows rules.now) K.SIZE (length out.old) ≡ Some (write_reason e)) }
+    ensures after { out.new ≡ changed (table_refusal widths.now (R.rows rules.now) K.SIZE (length out.old)) out.old
+        (put 0 (file_bytes K.written K.CODE widths.now (R.rows rules.now) (R.decisions rules.now)) out.old) }
+    ensures again { table_refusal widths.now (R.rows rules.now) K.SIZE (length out.old) ≡ None →
+        ReadsAs K.reading K.CODE K.SIZE
+        (file_bytes K.written K.CODE widths.now (R.rows rules.now) (R.decisions rules.now))
         widths.now (R.rows rules.now) (R.decisions rules.now) }
 {
     let plan = Plan::test::<K>(widths, rules.count(), out.len())?;
@@ -94,27 +94,14 @@ pub fn write_table<K: Kind, R: Rules<K>>(
     put_decisions(stage, rules, out)
 }
 
-// Writes an accepted file again: only room can lack.
-fn rewrite_file<K: Kind>(file: TableFile<'_, K>, out: &mut [u8]) -> Result<usize, WriteFault>
-    requires lawful { file_refusal file.bytes.now K.code K.size ≡ None }
-    requires bytes { (k : ℕ) → slice_index file.bytes.now k < 256 }
-    ensures answer { MatchResult result
-        (λ n. (rewrite_refusal file.entry.bytes.now K.code K.size (length out.old) ≡ None) × (n ≡ length file.entry.bytes.now))
-        (λ e. rewrite_refusal file.entry.bytes.now K.code K.size (length out.old) ≡ Some (told_by WriterLayer (write_reason e))) }
-    ensures after { out.new ≡ changed (rewrite_refusal file.entry.bytes.now K.code K.size (length out.old)) out.old (put 0 file.entry.bytes.now out.old) }
-{
-    write_table(file.widths(), &file, out)
-}
-
 // Reads a file and writes it again: an accepted file comes out with the same bytes, and the buffer is untouched behind them. It is
 // refused as the reader refuses it, or else only for lack of room, with the bytes needed and nothing written.
 pub fn rewrite<K: Kind>(bytes: &[u8], out: &mut [u8]) -> Result<usize, RewriteFault>
     ensures answer { MatchResult result
-        (λ n. (rewrite_refusal bytes.now K.code K.size (length out.old) ≡ None) × (n ≡ length bytes.now))
-        (λ e. rewrite_refusal bytes.now K.code K.size (length out.old) ≡ Some (rewrite_told e)) }
-    ensures after { out.new ≡ changed (rewrite_refusal bytes.now K.code K.size (length out.old)) out.old (put 0 bytes.now out.old) }
+        (λ n. (rewrite_refusal bytes.now K.CODE K.SIZE (length out.old) ≡ None) × (n ≡ length bytes.now))
+        (λ e. rewrite_refusal bytes.now K.CODE K.SIZE (length out.old) ≡ Some (rewrite_told e)) }
+    ensures after { out.new ≡ changed (rewrite_refusal bytes.now K.CODE K.SIZE (length out.old)) out.old (put 0 bytes.now out.old) }
 {
     let file = TableFile::<K>::open(bytes)?;
-    let length = rewrite_file(file, out)?;
-    Ok(length)
+    Ok(write_table(file.widths(), &file, out)?)
 }

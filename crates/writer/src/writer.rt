@@ -22,8 +22,8 @@ impl Plan {
         room: usize,
     ) -> Result<Plan, WriteFault>
         ensures { MatchResult result
-            (λ p. (start_refusal widths.now rules K.size room ≡ None) × Planned widths.now rules K.code K.size p)
-            (λ e. start_refusal widths.now rules K.size room ≡ Some (write_reason e)) }
+            (λ p. (start_refusal widths.now rules K.SIZE room ≡ None) × Planned widths.now rules K.CODE K.SIZE p)
+            (λ e. start_refusal widths.now rules K.SIZE room ≡ Some (write_reason e)) }
     {
         let widths = Widths::test(widths)?;
         if rules > 512 {
@@ -32,8 +32,8 @@ impl Plan {
         let plan = Plan {
             widths,
             rules: rules as u16,
-            code: K::kind_code(),
-            size: K::decision_size() as u16,
+            code: K::CODE,
+            size: K::SIZE,
         };
         plan.room_test(room)?;
         Ok(plan)
@@ -108,7 +108,7 @@ impl<P> Stage<P> {
 impl RowStage {
     // What a start would refuse with a buffer of so many bytes. Nothing is written.
     pub fn start_fault<K: Kind>(widths: &[u8], rules: usize, room: usize) -> Option<WriteFault>
-        ensures { option_map write_reason result ≡ start_refusal widths.now rules K.size room }
+        ensures { option_map write_reason result ≡ start_refusal widths.now rules K.SIZE room }
     {
         Plan::test::<K>(widths, rules, room).err()
     }
@@ -120,10 +120,10 @@ impl RowStage {
         out: &mut [u8],
     ) -> Result<RowStage, WriteFault>
         ensures answer { MatchResult result
-            (λ s. (start_refusal widths.now rules K.size (length out.old) ≡ None) × Begun widths.now rules K.code K.size s)
-            (λ e. start_refusal widths.now rules K.size (length out.old) ≡ Some (write_reason e)) }
-        ensures after { out.new ≡ changed (start_refusal widths.now rules K.size (length out.old)) out.old
-            (put 0 (head_bytes (length widths.now) rules K.code ++ widths.now) out.old) }
+            (λ s. (start_refusal widths.now rules K.SIZE (length out.old) ≡ None) × Begun widths.now rules K.CODE K.SIZE s)
+            (λ e. start_refusal widths.now rules K.SIZE (length out.old) ≡ Some (write_reason e)) }
+        ensures after { out.new ≡ changed (start_refusal widths.now rules K.SIZE (length out.old)) out.old
+            (put 0 (head_bytes (length widths.now) rules K.CODE ++ widths.now) out.old) }
     {
         let plan = Plan::test::<K>(widths, rules, out.len())?;
         Ok(plan.start(widths, out))
@@ -181,11 +181,11 @@ impl DecisionStage {
     // What a decision tests.
     fn decision_test<K: Kind>(&self, room: usize) -> Result<(), WriteFault>
         ensures { MatchResult result
-            (λ _. decision_refusal self.now K.code K.size room ≡ None)
-            (λ e. decision_refusal self.now K.code K.size room ≡ Some (write_reason e)) }
+            (λ _. decision_refusal self.now K.CODE K.SIZE room ≡ None)
+            (λ e. decision_refusal self.now K.CODE K.SIZE room ≡ Some (write_reason e)) }
     {
         self.ready(room)?;
-        if K::kind_code() != self.plan.code || K::decision_size() != self.plan.size as usize {
+        if K::CODE != self.plan.code || K::SIZE != self.plan.size {
             return Err(WriteFault::Kind);
         }
         Ok(())
@@ -197,10 +197,10 @@ impl DecisionStage {
         out: &mut [u8],
         decision: K,
     ) -> Result<DecisionStage, Refused<DecisionStage>>
-        ensures answer { step_told result ≡ judged (decision_refusal self K.code K.size (length out.old)) self (next_stage self) }
-        ensures after { out.new ≡ changed (decision_refusal self K.code K.size (length out.old)) out.old
+        ensures answer { step_told result ≡ judged (decision_refusal self K.CODE K.SIZE (length out.old)) self (next_stage self) }
+        ensures after { out.new ≡ changed (decision_refusal self K.CODE K.SIZE (length out.old)) out.old
             (put (decision_place self) (K.written decision) out.old) }
-        ensures kept { decision_refusal self K.code K.size (length out.old) ≡ None → K.reading (K.written decision) ≡ decision }
+        ensures kept { decision_refusal self K.CODE K.SIZE (length out.old) ≡ None → K.reading (K.written decision) ≡ decision }
     {
         if let Err(fault) = self.decision_test::<K>(out.len()) {
             return Err(Refused { stage: self, fault });

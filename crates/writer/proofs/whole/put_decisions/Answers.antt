@@ -13,11 +13,11 @@ loop-rule-preserved g c =
     let k = c.loop-rule.rule in
     let below : k < length ds = omega (arith, c.count-rule-end.ensures.of_decisions) in
     let room : plan_length p ≤ length c.loop-rule.out = omega (arith, c.requires.room, c.loop-rule.auto.out) in
-    let none : decision_refusal c.loop-rule.stage g.K.Kind.code g.K.Kind.size (length c.loop-rule.out) ≡ None =
+    let none : decision_refusal c.loop-rule.stage g.K.Kind.CODE g.K.Kind.SIZE (length c.loop-rule.out) ≡ None =
     rw c.loop-rule.invariant.0 (decision_granted (stage_after p k) _ _ _ room (omega (arith, c.requires.counted)) (sym c.requires.of_code) (sym c.requires.of_size))
     in
     let step =
-    decision_stepped p k c.loop-rule.stage g.K.Kind.code g.K.Kind.size (written x) c.loop-rule.out c.decision-in-loop-rule.new.out c.decision-in-loop-rule.result c.loop-rule.invariant.0 none
+    decision_stepped p k c.loop-rule.stage g.K.Kind.CODE g.K.Kind.SIZE (written x) c.loop-rule.out c.decision-in-loop-rule.new.out c.decision-in-loop-rule.result c.loop-rule.invariant.0 none
     c.decision-in-loop-rule.ensures.answer
     c.decision-in-loop-rule.ensures.after
     in
