@@ -20,10 +20,10 @@ use Rattle.writer.specs.declared.stage.Rows.{Rows}
 use Rattle.writer.specs.declared.stage.Decisions.{Decisions}
 use Rattle.file.specs.Contents.{blank, rows_of, decision_bytes, decisions_of}
 use Rattle.writer.specs.Tables.{trimmed, rows_bytes, file_bytes, ReadsAs}
-use Rattle.writer.proofs.Joins.{joined_split, joined_length, front_length}
+use Rattle.writer.proofs.Joins.{joined_split, joined_length, front_length, rows_length}
 use Rattle.writer.proofs.Numbers.{four_back, pair_at}
 use Rattle.file.proofs.Parts.{part_at, counted_items}
-use Rattle.writer.proofs.Puts.{put_put, row_length}
+use Rattle.writer.proofs.Puts.{put_put}
 use Rattle.writer.proofs.Steps.{stage_after}
 use Rattle.file.proofs.Refused.{header_lawful, counts_lawful, by_body}
 use Rattle.writer.proofs.Rooms.{eight_times}
@@ -88,18 +88,13 @@ module _ {K : Type 0} (written : K → List ℕ) (reading : List ℕ → K) (cod
   front_long = omega arith
 
   row_long : (k : ℕ) → k < n → (x : List Ends) → length (row_bytes d (get_or rows k x)) ≡ 8 * d
-  row_long k h x =
-      let e : get_or rows k x ≡ get_or rows k blank = get_or_default rows k x blank h in
-      ap (λ es. length (row_bytes d es)) e ∙ row_length d (get_or rows k blank) (omega (arith, eights k h, few))
-
-  decision_long : (k : ℕ) → k < length ds → (x : K) → length (written (get_or ds k x)) ≡ size
-  decision_long k h x = sized (get_or ds k x)
+  row_long = rows_length d rows n few (omega arith) eights
 
   pub rows_long : length (rows_bytes d rows) ≡ 8 * (d * n)
   rows_long = joined_length (row_bytes d) rows (8 * d) row_long ∙ mul_comm n (8 * d) ∙ mul_assoc 8 d n
 
   pub decisions_long : length (flat_map written ds) ≡ n * size
-  decisions_long = joined_length written ds size decision_long ∙ ap (λ m. m * size) (sym paired)
+  decisions_long = joined_length written ds size (λ k h x. sized (get_or ds k x)) ∙ ap (λ m. m * size) (sym paired)
 
   pub file_long : length file ≡ file_length d n size
   file_long =
@@ -130,7 +125,7 @@ module _ {K : Type 0} (written : K → List ℕ) (reading : List ℕ → K) (cod
       let b' = flat_map ends_bytes (drop (suc k) (take d es)) in
       let one = ends_bytes (at es k) in
       let dec = flat_map written ds in
-      let la : length a ≡ r * (8 * d) = front_length (row_bytes d) rows r (8 * d) (omega arith) row_long in
+      let la : length a ≡ r * (8 * d) = front_length (row_bytes d) rows r (8 * d) (omega arith) (λ j l. row_long j (omega arith)) in
       let la' : length a' ≡ k * 8 = front_length ends_bytes (take d es) k 8 (omega (arith, length-take-le d es (omega (arith, eights r h, few)))) (λ _ _ _. refl) in
       let m = eight_times r d in (
         (front ++ a) ++ a',
@@ -180,7 +175,7 @@ module _ {K : Type 0} (written : K → List ℕ) (reading : List ℕ → K) (cod
       let b = flat_map written (drop (suc r) ds) in
       let all = rows_bytes d rows in
       let one = written (get_or ds r x) in
-      let la : length a ≡ r * size = front_length written ds r size (omega arith) decision_long in
+      let la : length a ≡ r * size = front_length written ds r size (omega arith) (λ j l x. sized (get_or ds j x)) in
       let place : length ((front ++ all) ++ a) ≡ decisions_at d n + r * size =
       length-append (front ++ all) a ∙ omega (arith, length-append front all, front_long, rows_long)
       in

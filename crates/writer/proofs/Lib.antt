@@ -3,7 +3,6 @@ mod Back
 mod Finds
 mod Joins
 mod Numbers
-mod Pieces
 mod Puts
 mod Rooms
 mod Steps

@@ -15,18 +15,19 @@ use Rattle.writer.specs.declared.stage.Rows.{Rows}
 use Rattle.writer.specs.declared.stage.Decisions.{Decisions}
 use Rattle.writer.specs.declared.stage.Stage.{Stage}
 use Rattle.writer.specs.declared.stage.Refused.{Refused}
-use Rattle.writer.proofs.Pieces.{put_piece, length_front}
-use Rattle.writer.proofs.Puts.{row_length}
 use Rattle.writer.proofs.Rooms.{row_room, decision_room}
 
 -- what a step answers, and what it leaves, where no reason speaks against it
-pub step_ok : {S T : Type 0} (o : Option (ℕ × ℕ)) (r : Result T (Refused S)) (s : S) (t : T) → o ≡ None → step_told r ≡ judged o s t → r ≡ Ok t
-step_ok None (Ok x) s t n e = cc
-step_ok None (Err x) s t n e = cc
-step_ok (Some p) r s t n e = cc
+module _ {S T : Type 0} (o : Option (ℕ × ℕ)) (none : o ≡ None) where
+  pub step_ok : (r : Result T (Refused S)) (s : S) (t : T) → step_told r ≡ judged o s t → r ≡ Ok t
+  step_ok r s t e = of r (e ∙ ap (λ x. judged x s t) none)
+    where
+      of : (q : Result T (Refused S)) → step_told q ≡ granted t → q ≡ Ok t
+      of (Ok x) d = cc
+      of (Err x) d = cc
 
-pub step_changed : (o : Option (ℕ × ℕ)) (before after out : List ℕ) → o ≡ None → out ≡ changed o before after → out ≡ after
-step_changed o before after out n e = e ∙ ap (λ r. changed r before after) n
+pub step_changed : (o : Option (ℕ × ℕ)) → o ≡ None → (before after out : List ℕ) → out ≡ changed o before after → out ≡ after
+step_changed o none before after out e = e ∙ ap (λ r. changed r before after) none
 
 -- the stage of a plan after k rows, or after k decisions
 abbrev pub stage_after : {P : Type 0} → Plan → ℕ → Stage P
@@ -68,61 +69,6 @@ decision_settled s code size room e =
     let r = ready_settled s room f.0 in
     let same : size ≡ s.plan.size = eqb-true _ _ (not-false _ (or_parts _ _ (settled _ _ _ f.1).0).1) in
     rw same (decision_room (plan_fields s.plan) s.plan.rules s.plan.size s.done room r.1 r.0)
-
--- what a step comes to where no reason speaks against it
-pub row_stepped : (p : Plan) (k : ℕ) (s : Stage Rows) (es : List Ends) (out out' : List ℕ) (r : Result (Stage Rows) (Refused (Stage Rows))) → s ≡ stage_after p k
-    → plan_length p ≤ length out → k < p.rules → ends_refusal (widths_of p.widths) es ≡ None
-    → step_told r ≡ judged (row_refusal s es (length out)) s (next_stage s)
-    → out' ≡ changed (row_refusal s es (length out)) out (put (row_at s) (row_bytes (plan_fields s.plan) es) out)
-    → (r ≡ Ok (stage_after p (k + 1))) × (out' ≡ put (row_at (stage_after p k)) (row_bytes (plan_fields p) es) out)
-row_stepped p k s es out out' r e h i l a b =
-    let none : row_refusal s es (length out) ≡ None = rw e (row_granted (stage_after p k) es (length out) h i l) in (
-      step_ok _ r s (next_stage s) none a ∙ ap (λ t. Ok (next_stage t)) e,
-      step_changed _ _ _ out' none b ∙ ap (λ t. put (row_at t) (row_bytes (plan_fields t.plan) es) out) e,
-    )
-
-pub decision_stepped : (p : Plan) (k : ℕ) (s : Stage Decisions) (code size : ℕ) (bytes out out' : List ℕ) (r : Result (Stage Decisions) (Refused (Stage Decisions)))
-    → s ≡ stage_after p k → decision_refusal s code size (length out) ≡ None
-    → step_told r ≡ judged (decision_refusal s code size (length out)) s (next_stage s)
-    → out' ≡ changed (decision_refusal s code size (length out)) out (put (decision_place s) bytes out)
-    → (r ≡ Ok (stage_after p (k + 1))) × (out' ≡ put (decision_place (stage_after p k)) bytes out)
-decision_stepped p k s code size bytes out out' r e none a b = (
-  step_ok _ r s (next_stage s) none a ∙ ap (λ t. Ok (next_stage t)) e,
-  step_changed _ _ _ out' none b ∙ ap (λ t. put (decision_place t) bytes out) e,
-)
-
--- a buffer with the first k rows, and with the first k decisions
-abbrev pub rows_put : Plan → List (List Ends) → ℕ → List ℕ → List ℕ
-rows_put p rows k out = put (rows_at (plan_fields p)) (rows_bytes (plan_fields p) (take k rows)) out
-
-abbrev pub decisions_put : {K : Type 0} → (K → List ℕ) → Plan → List K → ℕ → List ℕ → List ℕ
-decisions_put written p ds k out = put (decisions_at (plan_fields p) p.rules) (flat_map written (take k ds)) out
-
--- one row more behind those that stand
-pub rows_more : (p : Plan) (rows : List (List Ends)) (es : List Ends) (k : ℕ) (out : List ℕ) → es ≡ get_or rows k es → k < length rows
-    → length es ≡ 8 → plan_fields p ≤ 8 → p.rules ≡ length rows → plan_length p ≤ length out
-    → length (rows_bytes (plan_fields p) (take k rows)) ≡ 8 * (k * plan_fields p)
-    → (length (rows_bytes (plan_fields p) (take (k + 1) rows)) ≡ 8 * ((k + 1) * plan_fields p)) ×
-    (put (low_at (plan_fields p) (k * plan_fields p)) (row_bytes (plan_fields p) es) (rows_put p rows k out) ≡ rows_put p rows (k + 1) out)
-rows_more p rows es k out e h l f n room len =
-    let d = plan_fields p in
-    let one : length (row_bytes d es) ≡ 8 * d = row_length d es (omega arith) in (
-      length_front (row_bytes d) rows es k e h ∙ omega (arith, add-mul k 1 d),
-      put_piece (row_bytes d) rows es k (rows_at d) (low_at d (k * d)) out e h (omega arith) (omega (arith, row_room d p.rules p.size k (length out) (omega arith) room)),
-    )
-
--- one decision more behind those that stand
-pub decisions_more : {K : Type 0} (written : K → List ℕ) (p : Plan) (ds : List K) (x : K) (k : ℕ) (out : List ℕ) → x ≡ get_or ds k x
-    → k < length ds → length (written x) ≡ p.size → p.rules ≡ length ds → plan_length p ≤ length out
-    → length (flat_map written (take k ds)) ≡ k * p.size
-    → (length (flat_map written (take (k + 1) ds)) ≡ (k + 1) * p.size) ×
-    (put (decisions_at (plan_fields p) p.rules + k * p.size) (written x) (decisions_put written p ds k out) ≡ decisions_put written p ds (k + 1) out)
-decisions_more written p ds x k out e h l n room len =
-    let d = plan_fields p in
-    let at = decisions_at d p.rules in (
-      length_front written ds x k e h ∙ omega (arith, add-mul k 1 p.size),
-      put_piece written ds x k at (at + k * p.size) out e h (omega arith) (omega (arith, decision_room d p.rules p.size k (length out) (omega arith) room)),
-    )
 
 -- the length that a plan gives is that of its file
 pub planned_length : (ws : List ℕ) (n code size : ℕ) (p : Plan) → Planned ws n code size p → plan_length p ≡ file_length (length ws) n size

@@ -2,9 +2,11 @@
 use Rattle.std.specs.Prelude.{◌≡◌, ℕ, ◌+◌, ◌*◌, ◌/◌, ◌%◌, ◌≤◌, cond, not, ◌||◌, List, [], ◌∷◌, ◌++◌, length, take, drop, Some, None, Option, Result, Ok, Err, ◌==◌, nat_le, nat_lt}
 use Rattle.std.specs.List.{flat_map}
 use Rattle.std.specs.Option.{option_map}
+use Rattle.std.specs.Result.{result_err}
 use Rattle.routing.specs.declared.ends.Ends.{Ends}
 use Rattle.routing.specs.Fields.{widths_of}
 use Rattle.routing.specs.Lawful.{widths_refusal, ends_refusal}
+use Rattle.fault.specs.declared.writing.WriteFault.{WriteFault}
 use Rattle.fault.specs.Faults.{write_reason}
 use Rattle.file.specs.declared.layout.Layout.{Layout}
 use Rattle.file.specs.Layout.{four_bytes, rows_at, low_at, decisions_at, file_length, first_of}
@@ -64,6 +66,10 @@ module _ {S T : Type 0} where
 abbrev pub changed : {R : Type 0} → Option R → List ℕ → List ℕ → List ℕ
 changed None before after = after
 changed (Some reason) before after = before
+
+-- why a test says no, if it does
+abbrev pub reason_of : Result (Unit {0}) WriteFault → Option (ℕ × ℕ)
+reason_of r = option_map write_reason (result_err r)
 
 -- what a step's answer tells
 abbrev pub step_told : {S T : Type 0} → Result T (Refused S) → Outcome S T

@@ -25,43 +25,41 @@ fn rows_fault<K: Kind, R: Rules<K>>(widths: Widths, rules: &R) -> Option<u8>
     (0..rules.count()).find_map(|rule| widths.ends_fault(&rules.row(rule)))
 }
 
-// Writes all rows and turns.
+// Writes all rows and turns. There is no slice to go over: a list of rules is a trait.
 fn put_rows<K: Kind, R: Rules<K>>(
-    start: RowStage,
+    mut stage: RowStage,
     rules: &R,
     out: &mut [u8],
 ) -> Result<DecisionStage, WriteFault>
-    requires begun { start.done ≡ 0 }
-    requires counted { start.plan.rules ≡ length (R.rows rules.now) }
-    requires room { plan_length start.plan ≤ length out.old }
-    requires lawful { (k : ℕ) → k < length (R.rows rules.now) → ends_refusal (widths_of start.plan.widths) (slice_index_or (R.rows rules.now) k blank) ≡ None }
-    ensures answer { result ≡ Ok (turned start) }
-    ensures after { out.new ≡ put (rows_at (plan_fields start.plan)) (rows_bytes (plan_fields start.plan) (R.rows rules.now)) out.old }
+    requires begun { stage.done ≡ 0 }
+    requires counted { stage.plan.rules ≡ length (R.rows rules.now) }
+    requires room { plan_length stage.plan ≤ length out.old }
+    requires lawful { (k : ℕ) → k < length (R.rows rules.now) → ends_refusal (widths_of stage.plan.widths) (slice_index_or (R.rows rules.now) k blank) ≡ None }
+    ensures answer { result ≡ Ok (turned stage) }
+    ensures after { out.new ≡ put (rows_at (plan_fields stage.plan)) (rows_bytes (plan_fields stage.plan) (R.rows rules.now)) out.old }
     ensures eights { (k : ℕ) → k < length (R.rows rules.now) → length (slice_index_or (R.rows rules.now) k blank) ≡ 8 }
 {
-    let mut stage = start;
     for rule in 0..rules.count() {
         stage = stage.row(out, rules.row(rule))?;
     }
     Ok(stage.turn()?)
 }
 
-// Writes all decisions and ends.
+// Writes all decisions and ends. There is no slice to go over: a list of rules is a trait.
 fn put_decisions<K: Kind, R: Rules<K>>(
-    start: DecisionStage,
+    mut stage: DecisionStage,
     rules: &R,
     out: &mut [u8],
 ) -> Result<usize, WriteFault>
-    requires begun { start.done ≡ 0 }
-    requires counted { start.plan.rules ≡ length (R.decisions rules.now) }
-    requires of_code { start.plan.code ≡ K.CODE }
-    requires of_size { start.plan.size ≡ K.SIZE }
-    requires room { plan_length start.plan ≤ length out.old }
-    ensures answer { result ≡ Ok (plan_length start.plan) }
-    ensures after { out.new ≡ put (decisions_at (plan_fields start.plan) start.plan.rules) (flat_map K.written (R.decisions rules.now)) out.old }
+    requires begun { stage.done ≡ 0 }
+    requires counted { stage.plan.rules ≡ length (R.decisions rules.now) }
+    requires of_code { stage.plan.code ≡ K.CODE }
+    requires of_size { stage.plan.size ≡ K.SIZE }
+    requires room { plan_length stage.plan ≤ length out.old }
+    ensures answer { result ≡ Ok (plan_length stage.plan) }
+    ensures after { out.new ≡ put (decisions_at (plan_fields stage.plan) stage.plan.rules) (flat_map K.written (R.decisions rules.now)) out.old }
     ensures kept { (k : ℕ) → k < length (R.decisions rules.now) → (x : K) → K.reading (K.written (slice_index_or (R.decisions rules.now) k x)) ≡ slice_index_or (R.decisions rules.now) k x }
 {
-    let mut stage = start;
     for rule in 0..rules.count() {
         stage = stage.decision(out, rules.decision(rule).unwrap())?;
     }

@@ -3,7 +3,7 @@ ghost use Rattle.std.specs.Prelude.{◌≡◌, ◌+◌, ◌≤◌, ◌++◌, len
 ghost use Rattle.std.specs.Option.{option_map};
 ghost use Rattle.routing.specs.Fields.{widths_of};
 ghost use Rattle.fault.specs.Faults.{write_reason};
-ghost use Rattle.writer.specs.Stages.{put, row_bytes, head_bytes, plan_fields, plan_layout, plan_length, Planned, Begun, room_refusal, start_refusal, ready_refusal, row_refusal, decision_refusal, early_refusal, next_stage, turned, step_told, judged, changed, row_at, decision_place};
+ghost use Rattle.writer.specs.Stages.{put, row_bytes, head_bytes, plan_fields, plan_layout, plan_length, Planned, Begun, room_refusal, start_refusal, ready_refusal, row_refusal, decision_refusal, early_refusal, next_stage, turned, reason_of, step_told, judged, changed, row_at, decision_place};
 
 use crate::place::{put_decision, put_front, put_row};
 use crate::stage::{DecisionStage, Plan, Refused, RowStage, Stage};
@@ -51,9 +51,7 @@ impl Plan {
 
     // Room for the whole file.
     fn room_test(self, room: usize) -> Result<(), WriteFault>
-        ensures { MatchResult result
-            (λ _. room_refusal (plan_length self) room ≡ None)
-            (λ e. room_refusal (plan_length self) room ≡ Some (write_reason e)) }
+        ensures { reason_of result ≡ room_refusal (plan_length self) room }
     {
         let needed = self.layout().length();
         if room < needed {
@@ -81,25 +79,21 @@ impl Plan {
 impl<P> Stage<P> {
     // What each step into the file tests first: room for the whole file, and a rule to come.
     fn ready(&self, room: usize) -> Result<(), WriteFault>
-        ensures { MatchResult result
-            (λ _. ready_refusal self.now room ≡ None)
-            (λ e. ready_refusal self.now room ≡ Some (write_reason e)) }
+        ensures { reason_of result ≡ ready_refusal self.now room }
     {
         self.plan.room_test(room)?;
         if self.done >= self.plan.rules {
-            return Err(WriteFault::Count(self.done as usize));
+            return Err(WriteFault::Count(usize::from(self.done)));
         }
         Ok(())
     }
 
     // What a turn and an end test: no rule is to come.
     fn complete(&self) -> Result<(), WriteFault>
-        ensures { MatchResult result
-            (λ _. early_refusal self.now ≡ None)
-            (λ e. early_refusal self.now ≡ Some (write_reason e)) }
+        ensures { reason_of result ≡ early_refusal self.now }
     {
         if self.done < self.plan.rules {
-            return Err(WriteFault::Count(self.done as usize));
+            return Err(WriteFault::Count(usize::from(self.done)));
         }
         Ok(())
     }
@@ -131,9 +125,7 @@ impl RowStage {
 
     // What a row tests.
     fn row_test(&self, room: usize, ends: &[Ends; 8]) -> Result<(), WriteFault>
-        ensures { MatchResult result
-            (λ _. row_refusal self.now ends.now room ≡ None)
-            (λ e. row_refusal self.now ends.now room ≡ Some (write_reason e)) }
+        ensures { reason_of result ≡ row_refusal self.now ends.now room }
     {
         self.ready(room)?;
         match self.plan.widths.ends_fault(ends) {
@@ -180,9 +172,7 @@ impl RowStage {
 impl DecisionStage {
     // What a decision tests.
     fn decision_test<K: Kind>(&self, room: usize) -> Result<(), WriteFault>
-        ensures { MatchResult result
-            (λ _. decision_refusal self.now K.CODE K.SIZE room ≡ None)
-            (λ e. decision_refusal self.now K.CODE K.SIZE room ≡ Some (write_reason e)) }
+        ensures { reason_of result ≡ decision_refusal self.now K.CODE K.SIZE room }
     {
         self.ready(room)?;
         if K::CODE != self.plan.code || K::SIZE != self.plan.size {
