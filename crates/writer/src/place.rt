@@ -15,6 +15,7 @@ fn put_bytes(out: &mut [u8], at: usize, bytes: &[u8])
     out[at..to].copy_from_slice(bytes);
 }
 
+#[tactic(auto, using(crate::proofs::Puts::put_put))]
 fn put_ends(out: &mut [u8], at: usize, ends: Ends)
     requires { at + 8 ≤ length out.old }
     ensures { out.new ≡ put at (ends_bytes ends) out.old }
@@ -61,9 +62,8 @@ fn head(layout: Layout, code: u8) -> [u8; 16]
 
 // The header and the widths.
 pub fn put_front(out: &mut [u8], widths: &[u8], layout: Layout, code: u8)
-    requires of_fields { length widths.now ≡ layout.fields }
-    requires room { 16 + length widths.now ≤ length out.old }
-    ensures { out.new ≡ put 0 (head_bytes (length widths.now) layout.rules code ++ widths.now) out.old }
+    requires { 16 + length widths.now ≤ length out.old }
+    ensures { out.new ≡ put 0 (head_bytes layout.fields layout.rules code ++ widths.now) out.old }
 {
     put_bytes(out, 0, &head(layout, code));
     put_bytes(out, 16, widths);

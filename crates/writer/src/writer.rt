@@ -182,6 +182,7 @@ impl DecisionStage {
     }
 
     // Writes the next decision.
+    #[tactic(auto, using(crate::proofs::Steps::decision_settled))]
     pub fn decision<K: Kind>(
         mut self,
         out: &mut [u8],

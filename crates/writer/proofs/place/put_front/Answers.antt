@@ -1,4 +1,4 @@
-use Rattle.std.proofs.Common.{◌≡◌, ◌+◌, length, refl, ap, ◌∙◌, sym, arith}
+use Rattle.std.proofs.Common.{◌≡◌, refl, ap, ◌∙◌, arith}
 use Rattle.writer.specs.Stages.{put, head_bytes}
 use Rattle.writer.proofs.Puts.{put_put}
 use Rattle.writer.proofs.place.put_front.Goals as goal
@@ -7,9 +7,6 @@ pub returns : goal.returns
 returns c =
     let ws = c.args.widths.now in
     let out = c.args.out.now in
-    let front : c.head.result ≡ head_bytes (length ws) c.args.layout.rules c.args.code =
-    c.head.ensures ∙ ap (λ d. head_bytes d c.args.layout.rules c.args.code) (sym c.requires.of_fields)
-    in
     c.put_bytes-2.ensures
-    ∙ ap (put 16 ws) (c.put_bytes.ensures ∙ ap (λ bs. put 0 bs out) front)
-    ∙ put_put 0 16 (head_bytes (length ws) c.args.layout.rules c.args.code) ws out refl (omega arith)
+    ∙ ap (put 16 ws) (c.put_bytes.ensures ∙ ap (λ bs. put 0 bs out) c.head.ensures)
+    ∙ put_put 0 16 (head_bytes c.args.layout.fields c.args.layout.rules c.args.code) ws out refl (omega arith)
