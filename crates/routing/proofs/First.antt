@@ -1,7 +1,11 @@
 -- The first place of a fault, as a loop finds it. Assumes nothing.
-use Rattle.std.proofs.Common.{◌≡◌, ℕ, zero, suc, ◌+◌, ◌<◌, Bool, true, false, Some, None, Option, sym, refl, ap, ◌∙◌, ⊎_elim, add-one, arith}
+use Rattle.std.proofs.Common.{◌≡◌, ℕ, zero, suc, ◌+◌, ◌<◌, ◌≤◌, Bool, true, false, List, [], ◌∷◌, length, get_or, Some, None, Option, sym, refl, ap, ◌∙◌, ⊎_elim, add-one, arith}
+use Rattle.std.specs.List.{position, position_or_len, zip}
 use Rattle.std.specs.Option.{option_map}
-use Rattle.std.proofs.lemmas.Bool.{cases_eq}
+use Rattle.std.proofs.lemmas.List.{get_or_default}
+use Rattle.std.proofs.lemmas.Slice.Zip.{get_or-zip}
+use Rattle.std.proofs.lemmas.List.Sums.{fails_before_first, passes_at_first}
+use Rattle.std.proofs.lemmas.Bool.{cases_eq, cases_lt, lt-ltb, le-ltb}
 use Rattle.routing.specs.Firsts.{first_some, first_below, or_else, broken}
 
 or_else_none : (p q : Option ℕ) → or_else p q ≡ None → (p ≡ None) × (q ≡ None)
@@ -61,3 +65,27 @@ none_from bad place n h = none_all (λ j. broken (bad j) (place j)) n (λ k l. r
 pub mapped_none : {X Y : Type 0} (f : X → Y) (o : Option X) → option_map f o ≡ None → o ≡ None
 mapped_none f None e = refl
 mapped_none f (Some x) e = let z : ◌≡◌ {A = ℕ} 0 1 = cc in absurd (omega arith)
+
+-- the first of some items that does not pass, by its place, which counts from 1
+pub first_placed : {B : Type 0} (test : B → Bool) (bad : ℕ → Bool) (all : List B) → ((k : ℕ) (x : B) → k < length all → test (get_or all k x) ≡ bad k)
+    → option_map (λ k. k + 1) (position test all) ≡ first_below bad suc (length all)
+first_placed test bad [] same = refl
+first_placed test bad (x ∷ xs) same =
+    let n = length (x ∷ xs) in
+    let p = position_or_len test (x ∷ xs) in
+    let before : (k : ℕ) → k < n → k < p → bad k ≡ false = λ k i h. sym (same k x i) ∙ fails_before_first test (x ∷ xs) k x h in
+    ⊎_elim
+    (λ (h : p < n).
+    rw (lt-ltb p n h) (found bad n p h (none_from bad suc p (λ k i. before k (omega arith) i)) (sym (same p x h) ∙ passes_at_first test (x ∷ xs) x h)))
+    (λ (h : n ≤ p). rw (le-ltb p n h) (sym (none_from bad suc n (λ k i. before k i (omega arith)))))
+    (cases_lt p n)
+
+-- the same, where it is known how many there are
+pub first_of : {B : Type 0} (test : B → Bool) (bad : ℕ → Bool) (n : ℕ) (all : List B) → length all ≡ n
+    → ((k : ℕ) (x : B) → k < n → test (get_or all k x) ≡ bad k) → option_map (λ k. k + 1) (position test all) ≡ first_below bad suc n
+first_of test bad n all e same = rw (← e) (first_placed test bad all (λ k x h. same k x (omega arith)))
+
+-- a pair of two lists, at whatever defaults
+pub pair_at : {A B : Type 0} (xs : List A) (ys : List B) (k : ℕ) (p : A × B) (d : A) (e : B) → k < length xs → k < length ys
+    → get_or (zip xs ys) k p ≡ (get_or xs k d, get_or ys k e)
+pair_at xs ys k p d e h i = rw (get_or-zip xs ys k p h i, get_or_default xs k p.0 d h, get_or_default ys k p.1 e i)

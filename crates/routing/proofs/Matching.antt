@@ -1,18 +1,15 @@
--- A rule's ends against a message, field by field. Assumes nothing.
-use Rattle.std.proofs.Common.{◌≡◌, ℕ, zero, suc, ◌+◌, ◌-◌, ◌<◌, true, ◌&&◌, List, [], length, get_or, drop, refl, arith}
-use Rattle.std.proofs.lemmas.List.{drop_more}
+-- A rule's ends against a message, pair by pair. Assumes nothing.
+use Rattle.std.proofs.Common.{◌≡◌, ℕ, zero, suc, ◌≤◌, Bool, ◌&&◌, List, [], ◌∷◌, length, take, refl, ap, arith}
+use Rattle.std.specs.List.{zip, list_all}
 use Rattle.routing.specs.declared.ends.Ends.{Ends}
 use Rattle.routing.specs.Rules.{holds, matches}
-use Rattle.routing.specs.Space.{at}
 
--- from field k on: field k, and the fields after it
-pub matches_more : (d k : ℕ) (es : List Ends) (m : List ℕ) → k < d → k < length es → k < length m
-    → matches (d - k) (drop k es) (drop k m) ≡ (holds (at es k) (get_or m k 0) && matches (d - (k + 1)) (drop (k + 1) es) (drop (k + 1) m))
-matches_more d k es m h i j =
-    let e : d - k ≡ suc (d - (k + 1)) = omega arith in
-    rw (e, drop_more es k (record { low = 0; high = 0 }) i, drop_more m k 0 j)
+abbrev pub pair_holds : Ends × ℕ → Bool
+pair_holds p = holds p.0 p.1
 
--- no field is left
-pub matches_none : (d : ℕ) (m : List ℕ) → matches d [] m ≡ true
-matches_none zero m = refl
-matches_none (suc d) m = refl
+-- each of the first pairs holds
+pub all_hold : (d : ℕ) (es : List Ends) (m : List ℕ) → length es ≤ length m → list_all pair_holds (take d (zip es m)) ≡ matches d es m
+all_hold zero es m h = refl
+all_hold (suc d) [] m h = refl
+all_hold (suc d) (e ∷ es) [] h = absurd (omega arith)
+all_hold (suc d) (e ∷ es) (v ∷ vs) h = ap (λ b. holds e v && b) (all_hold d es vs (omega arith))

@@ -4,7 +4,7 @@ ghost use Rattle.routing.specs.Rules.{holds};
 ghost use Rattle.routing.specs.Lawful.{fits};
 
 // As a caller hands them over: whether they make an interval of a field is for `fits` to say.
-#[derive(Clone, Copy, PartialEq, Eq)]
+#[derive(Clone, Copy, Debug, PartialEq, Eq, Hash)]
 pub struct Ends {
     pub low: u32,
     pub high: u32,

@@ -8,7 +8,7 @@ use crate::ends::Ends;
 pub type Message = [u32; 8];
 
 // An interval for each field, and a decision. Pairs past the last field are not looked at.
-#[derive(Clone, Copy)]
+#[derive(Clone, Copy, Debug, PartialEq, Eq)]
 pub struct Rule<K> {
     pub ends: [Ends; 8],
     pub decision: K,
@@ -18,15 +18,10 @@ pub struct Rule<K> {
 pub fn matches(fields: usize, ends: &[Ends; 8], message: Message) -> bool
     ensures { result ≡ matches fields ends.now message }
 {
-    for (k, pair) in ends.iter().enumerate() {
-        if k >= fields {
-            return true;
-        }
-        if !pair.holds(message[k]) {
-            return false;
-        }
-    }
-    true
+    ends.iter()
+        .zip(&message)
+        .take(fields)
+        .all(|(pair, &value)| pair.holds(value))
 }
 
 ghost use Rattle.routing.specs.Examples.{Worked};

@@ -12,7 +12,7 @@ pub struct Widths {
 }
 
 // Why widths are refused. Fields count from 1.
-#[derive(Clone, Copy, Debug)]
+#[derive(Clone, Copy, Debug, PartialEq, Eq, Hash)]
 pub enum WidthsFault {
     // there are not 1 to 8 fields
     Fields,

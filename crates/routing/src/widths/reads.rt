@@ -1,5 +1,6 @@
 // Testing widths, and what tested widths allow.
-ghost use Rattle.std.specs.Prelude.{◌≡◌, ◌≤◌, length, Some, None, MatchResult, slice_index};
+ghost use Rattle.std.specs.Prelude.{◌≡◌, ℕ, ◌+◌, ◌<◌, ◌≤◌, length, Some, None, IfSome, MatchResult, slice_index};
+ghost use Rattle.std.specs.Option.{option_map};
 ghost use Rattle.routing.specs.Packing.{packed};
 ghost use Rattle.routing.specs.Lawful.{width_refusal, widths_refusal, message_refusal, ends_refusal};
 ghost use Rattle.routing.specs.Refusals.{told_by, widths_reason};
@@ -33,17 +34,20 @@ impl WidthsFault {
     }
 }
 
+// A place counted from 1 in place of 0.
+fn from_one(place: Option<usize>) -> Option<u8>
+    requires { IfSome place (λ k. k < 255) }
+    ensures { result ≡ option_map (λ k. k + 1) place }
+{
+    place.map(|k| (k + 1) as u8)
+}
+
 // The first field whose width is not 1 to 32.
 fn width_fault(widths: &[u8]) -> Option<u8>
     requires { length widths.now ≤ 8 }
     ensures { result ≡ width_refusal widths.now }
 {
-    for (k, width) in widths.iter().enumerate() {
-        if *width < 1 || *width > 32 {
-            return Some((k + 1) as u8);
-        }
-    }
-    None
+    from_one(widths.iter().position(|&width| !(1..=32).contains(&width)))
 }
 
 // The widths in one number.
@@ -55,17 +59,6 @@ fn pack(widths: &[u8]) -> u64
     let n = widths.len();
     all[0..n].copy_from_slice(widths);
     u64::from_le_bytes(all)
-}
-
-// Byte k of the number is the width of field k.
-fn width_at(widths: Widths, field: usize) -> u8
-    ensures { result ≡ slice_index (widths_of widths) field }
-{
-    if field < 8 {
-        ((widths.number >> (8 * field)) % 256) as u8
-    } else {
-        0
-    }
 }
 
 impl Widths {
@@ -86,46 +79,46 @@ impl Widths {
         Ok(Widths { number })
     }
 
+    // A byte for the width of each field, and 0 past the last.
+    fn bytes(self) -> [u8; 8]
+        ensures long { length result ≡ 8 }
+        ensures each { (k : ℕ) → slice_index result k ≡ slice_index (widths_of self) k }
+    {
+        self.number.to_le_bytes()
+    }
+
     // The width of a field, counted from 0; past the last field it is 0.
     pub fn width(self, field: usize) -> u8
         ensures { result ≡ slice_index (widths_of self) field }
     {
-        width_at(self, field)
+        self.bytes().get(field).copied().unwrap_or(0)
     }
 
     // How many fields there are.
     pub fn fields(self) -> usize
         ensures { result ≡ length (widths_of self) }
     {
-        for field in 0..8 {
-            if self.width(field) == 0 {
-                return field;
-            }
-        }
-        PLACES // each of them has a width
+        self.bytes()
+            .iter()
+            .position(|&width| width == 0)
+            .unwrap_or(PLACES)
     }
 
     // The first place of a message, counted from 1, that holds no value of its field, or not 0 past the last field.
     pub fn message_fault(self, message: Message) -> Option<u8>
         ensures { result ≡ message_refusal (widths_of self) message }
     {
-        for k in 0..8 {
-            if !within(message[k], self.width(k)) {
-                return Some((k + 1) as u8);
-            }
-        }
-        None
+        let widths = self.bytes();
+        let mut places = message.iter().zip(&widths);
+        from_one(places.position(|(&value, &width)| !within(value, width)))
     }
 
     // The first field, counted from 1, whose ends make no interval of it.
     pub fn ends_fault(self, ends: &[Ends; 8]) -> Option<u8>
         ensures { result ≡ ends_refusal (widths_of self) ends.now }
     {
-        for k in 0..self.fields() {
-            if !ends[k].fits(self.width(k)) {
-                return Some((k + 1) as u8);
-            }
-        }
-        None
+        let widths = self.bytes();
+        let mut fields = ends.iter().zip(&widths).take(self.fields());
+        from_one(fields.position(|(pair, &width)| !pair.fits(width)))
     }
 }

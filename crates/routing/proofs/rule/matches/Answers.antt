@@ -1,32 +1,16 @@
-use Rattle.std.proofs.Common.{◌+◌, ◌-◌, ◌<◌, Bool, ◌&&◌, length, drop, sym, ap, ◌∙◌, arith, rules}
-use Rattle.std.proofs.lemmas.List.{drop_all}
-use Rattle.routing.specs.Rules.{matches}
-use Rattle.routing.proofs.Matching.{matches_more, matches_none}
+use Rattle.std.proofs.Common.{◌∙◌, ◌≤◌, length, rules}
+use borrow.Author.Tests.{tests}
+use Rattle.std.proofs.lemmas.Iterator.{YieldsList-from_slice, YieldsList-from_zip, YieldsList-from_take}
+use Rattle.std.proofs.lemmas.Iterator.Search.{all_from_yields_List}
+use Rattle.routing.proofs.Matching.{pair_holds, all_hold}
 use Rattle.routing.proofs.rule.matches.Goals as goal
-
-pub returns-then-not-holds : goal.returns-then-not-holds
-returns-then-not-holds c =
-    let k = c.loop-k.k in
-    let long : k < length c.args.message = search rules in
-    let rest = matches (c.args.fields - (k + 1)) (drop (k + 1) c.args.ends.now) (drop (k + 1) c.args.message) in
-    sym
-    (c.loop-k.invariant
-    ∙ matches_more c.args.fields k c.args.ends.now c.args.message (omega arith) (omega arith) long
-    ∙ ap (λ (b : Bool). b && rest) (sym c.if-not-holds.ensures))
-
-pub loop-k-preserved : goal.loop-k-preserved
-loop-k-preserved c =
-    let k = c.loop-k.k in
-    let long : k < length c.args.message = search rules in
-    let rest = matches (c.args.fields - (k + 1)) (drop (k + 1) c.args.ends.now) (drop (k + 1) c.args.message) in
-    c.loop-k.invariant
-    ∙ matches_more c.args.fields k c.args.ends.now c.args.message (omega arith) (omega arith) long
-    ∙ ap (λ (b : Bool). b && rest) (sym c.if-not-holds.ensures)
 
 pub returns : goal.returns
 returns c =
-    let k = c.loop-k.k in
-    sym
-    (c.loop-k.invariant
-    ∙ ap (λ l. matches (c.args.fields - k) l (drop k c.args.message)) (drop_all k c.args.ends.now (omega arith))
-    ∙ matches_none (c.args.fields - k) (drop k c.args.message))
+    let es = c.args.ends.now in
+    let m = c.args.message in
+    let long : length es ≤ length m = search rules in
+    all_from_yields_List pair_holds c.all.new.self _ c.all.result c.all.ensures.ran
+    (YieldsList-from_take {s = c.take.result} c.args.fields (YieldsList-from_zip {s = c.take.result.iter} (YieldsList-from_slice es (cc)) (YieldsList-from_slice m (cc))) (cc))
+    (λ x b q k. search (rules, tests))
+    ∙ all_hold c.args.fields es m long
