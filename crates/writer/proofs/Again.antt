@@ -1,9 +1,9 @@
 -- A lawful file, written again from what it holds, has the same bytes. Assumes nothing.
-use Rattle.std.proofs.Common.{◌≡◌, ℕ, suc, ◌+◌, ◌*◌, ◌/◌, ◌%◌, ◌<◌, ◌≤◌, false, cond, ltb, List, [], ◌∷◌, ◌++◌, map, length, get_or, take, drop, Some, None, Option, sym, refl, ap, ◌∙◌, mul_assoc, mul_comm, zero-add, arith}
-use Rattle.std.specs.List.{range_with_len, flat_map}
-use Rattle.std.proofs.lemmas.Nat.{mul-le, mul-add-lt}
+use Rattle.std.proofs.Common.{◌≡◌, ℕ, ◌+◌, ◌*◌, ◌/◌, ◌%◌, ◌<◌, false, cond, ltb, List, [], ◌∷◌, ◌++◌, length, Some, None, Option, sym, refl, ap, ◌∙◌, mul_assoc, mul_comm, zero-add, arith}
+use Rattle.std.specs.List.{flat_map}
+use Rattle.std.proofs.lemmas.Nat.{mul-add-lt}
 use Rattle.std.proofs.lemmas.List.FromFn.{take-map-range_with_len, length-map-range_with_len, get_or-map-range_with_len}
-use Rattle.std.proofs.lemmas.List.{take_all, append_assoc}
+use Rattle.std.proofs.lemmas.List.{take_all}
 use Rattle.std.proofs.lemmas.Bool.{lt-ltb, le-ltb, cond-true}
 use Rattle.routing.specs.declared.ends.Ends.{Ends}
 use Rattle.std.specs.Option.{option_map}
@@ -12,7 +12,7 @@ use Rattle.routing.specs.declared.refusal.Layer.TheVariants.{Writer}
 use Rattle.routing.specs.Firsts.{first_some}
 use Rattle.routing.specs.Lawful.{widths_refusal, ends_refusal}
 use Rattle.routing.proofs.First.{mapped_none, none_all, some_none}
-use Rattle.file.specs.Layout.{byte, four, four_bytes, part, fields, rules, rows_at, low_at, decisions_at, file_length, width_bytes, pair, no_ends, row_of, row_place, first_of, file_refusal}
+use Rattle.file.specs.Layout.{byte, four_bytes, part, fields, rules, rows_at, low_at, decisions_at, file_length, width_bytes, pair, no_ends, row_of, row_place, first_of, file_refusal}
 use Rattle.writer.specs.Stages.{ends_bytes, row_bytes, head_bytes, room_refusal, start_refusal, put, changed}
 use Rattle.file.specs.Contents.{blank, rows_of, decision_bytes, decisions_of}
 use Rattle.writer.specs.Tables.{rows_bytes, file_bytes, rows_refusal, table_refusal, first_told, rewrite_refusal}

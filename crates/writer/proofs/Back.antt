@@ -1,24 +1,23 @@
 -- What was written is read again. Assumes nothing.
-use Rattle.std.proofs.Common.{◌≡◌, ℕ, suc, ◌+◌, ◌-◌, ◌*◌, ◌^◌, ◌<◌, ◌≤◌, Bool, true, false, cond, not, eqb, ltb, leb, List, [], ◌∷◌, ◌++◌, map, length, get_or, take, drop, Some, None, Option, sym, refl, ap, ◌∙◌, ⊎_elim, mul_assoc, mul_comm, add-mul, arith, pow_mono}
+use Rattle.std.proofs.Common.{◌≡◌, ℕ, suc, ◌+◌, ◌-◌, ◌*◌, ◌^◌, ◌<◌, ◌≤◌, cond, not, ltb, List, ◌++◌, map, length, get_or, take, drop, None, sym, refl, ap, ◌∙◌, mul_assoc, mul_comm, arith, pow_mono}
 use Rattle.std.specs.List.{range_with_len, flat_map}
 use Rattle.std.specs.Option.{option_map}
 use Rattle.std.proofs.lemmas.Nat.{div-add-mod', mul-le}
 use Rattle.std.proofs.lemmas.List.FromFn.{get_or-map-range_with_len, fill_by_all}
-use Rattle.std.proofs.lemmas.List.{append_assoc, length-append, length-map, take_at, get_or-take, get_or_default, get_or-map, length-take-le}
-use Rattle.std.proofs.lemmas.Bool.{lt-ltb, le-ltb, eq-eqb, and_parts, leb-true, ltb-true, not-false, or_parts, ltb-false, cond-true}
-use Rattle.std.proofs.lemmas.Bool.Decides.{nat_tests}
+use Rattle.std.proofs.lemmas.List.{append_assoc, length-append, length-map, take_at, get_or-take, get_or-map, length-take-le}
+use Rattle.std.proofs.lemmas.Bool.{lt-ltb, and_parts, leb-true, ltb-true, not-false, or_parts, ltb-false, cond-true}
 use Rattle.routing.specs.declared.ends.Ends.{Ends}
 use Rattle.routing.specs.Firsts.{first_some}
-use Rattle.routing.specs.Lawful.{widths_refusal, ends_refusal, ends_bad, fits, outside, width_refusal, width_bad}
+use Rattle.routing.specs.Lawful.{widths_refusal, ends_refusal, ends_bad, fits, width_refusal, width_bad}
 use Rattle.routing.specs.Space.{at}
 use Rattle.routing.proofs.First.{none_all, none_below, none_from}
-use Rattle.file.specs.Layout.{byte, four, four_bytes, part, fields, rules, rows_at, low_at, decisions_at, file_length, width_bytes, pair, no_ends, eight, row_of, row_place, header_refusal, counts_refusal, body_refusal, file_refusal, first_of, at_byte}
+use Rattle.file.specs.Layout.{part, fields, rules, rows_at, low_at, decisions_at, file_length, width_bytes, pair, no_ends, eight, row_of, row_place, header_refusal, counts_refusal, body_refusal, file_refusal}
 use Rattle.writer.specs.Stages.{put, ends_bytes, row_bytes, head_bytes, plan_fields, Planned}
 use Rattle.writer.specs.declared.stage.Plan.{Plan}
 use Rattle.writer.specs.declared.stage.Stage.{Stage}
 use Rattle.writer.specs.declared.stage.Rows.{Rows}
 use Rattle.writer.specs.declared.stage.Decisions.{Decisions}
-use Rattle.file.specs.Contents.{blank, rows_of, decision_bytes, decisions_of}
+use Rattle.file.specs.Contents.{blank, rows_of, decision_bytes}
 use Rattle.writer.specs.Tables.{trimmed, rows_bytes, file_bytes, ReadsAs}
 use Rattle.writer.proofs.Joins.{joined_split, joined_length, front_length, rows_length}
 use Rattle.writer.proofs.Numbers.{four_back, pair_at}

@@ -4,7 +4,6 @@ use Rattle.std.specs.Option.{MatchOption, option_map}
 use denote.Param.Members.{Mut, Called}
 use Rattle.std.specs.Iterator.Runs.{Run, SomeRun, ItemsCountUp, CallKeepsClosure, AllItemsGive, IsFirstToGive}
 use Rattle.std.specs.Bool.{IsTrue}
-use Rattle.std.specs.declared.ops.Range.{Range}
 use Rattle.std.proofs.iter.Yields.{nat_range_steps}
 use Rattle.std.proofs.iter.runs.Sources.{range_runs}
 use Rattle.routing.specs.Firsts.{first_some}

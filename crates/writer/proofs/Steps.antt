@@ -1,15 +1,12 @@
 -- Steps that are granted. Assumes nothing.
-use Rattle.std.proofs.Common.{◌≡◌, ℕ, suc, ◌+◌, ◌*◌, ◌<◌, ◌≤◌, true, false, not, ◌||◌, eqb, ltb, leb, List, [], ◌∷◌, ◌++◌, length, get_or, take, Some, None, Option, Result, Ok, Err, sym, refl, ap, ◌∙◌, add-mul, arith}
-use Rattle.std.specs.List.{flat_map}
+use Rattle.std.proofs.Common.{◌≡◌, ℕ, ◌+◌, ◌*◌, ◌<◌, ◌≤◌, List, length, None, Option, Result, Ok, Err, ap, ◌∙◌}
 use Rattle.std.proofs.lemmas.Bool.{le-ltb, lt-leb, eq-eqb, ltb-false, leb-false, eqb-true, not-false, or_parts}
 use Rattle.routing.specs.declared.ends.Ends.{Ends}
 use Rattle.routing.specs.Fields.{widths_of}
 use Rattle.routing.specs.Lawful.{ends_refusal, widths_refusal}
 use Rattle.file.proofs.Refused.{settled, first_none}
-use Rattle.file.specs.Layout.{rows_at, low_at, decisions_at, file_length}
-use Rattle.writer.specs.Stages.{put, row_bytes, plan_fields, plan_length, ready_refusal, row_refusal, decision_refusal, early_refusal, next_stage, row_at, decision_place, step_told, Outcome, granted, refused, judged, changed, Planned, start_refusal}
-use Rattle.file.specs.Contents.{blank}
-use Rattle.writer.specs.Tables.{rows_bytes}
+use Rattle.file.specs.Layout.{file_length}
+use Rattle.writer.specs.Stages.{plan_fields, plan_length, ready_refusal, row_refusal, decision_refusal, early_refusal, row_at, decision_place, step_told, granted, judged, changed, Planned, start_refusal}
 use Rattle.writer.specs.declared.stage.Plan.{Plan}
 use Rattle.writer.specs.declared.stage.Rows.{Rows}
 use Rattle.writer.specs.declared.stage.Decisions.{Decisions}

@@ -1,4 +1,4 @@
-use Rattle.std.proofs.Common.{◌≡◌, refl, ap, ◌∙◌, arith}
+use Rattle.std.proofs.Common.{refl, ap, ◌∙◌, arith}
 use Rattle.writer.specs.Stages.{put, head_bytes}
 use Rattle.writer.proofs.Puts.{put_put}
 use Rattle.writer.proofs.place.put_front.Goals as goal

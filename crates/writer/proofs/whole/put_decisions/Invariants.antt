@@ -13,5 +13,5 @@ invariant-loop-rule g l =
     let written = g.K.Kind.written in record {
       stage : l.stage ≡ stage_after p l.rule;
       bytes : l.out ≡ put (decisions_at (plan_fields p) p.rules) (flat_map written (take l.rule ds)) l.initial.out;
-      kept : (k : ℕ) → k < l.rule → (x : g.row.K.Denot) → g.K.Kind.reading (written (get_or ds k x)) ≡ get_or ds k x
+      kept : (k : ℕ) → k < l.rule → (x : g.row.K.Denot) → g.K.Kind.reading (written (get_or ds k x)) ≡ get_or ds k x;
     }

@@ -14,5 +14,5 @@ invariant-loop-rule g l =
     let rows = g.R.Rules.rows l.rules in record {
       stage : l.stage ≡ stage_after p l.rule;
       bytes : l.out ≡ put (rows_at d) (rows_bytes d (take l.rule rows)) l.initial.out;
-      eights : (k : ℕ) → k < l.rule → length (get_or rows k blank) ≡ 8
+      eights : (k : ℕ) → k < l.rule → length (get_or rows k blank) ≡ 8;
     }

@@ -1,4 +1,4 @@
-use Rattle.std.proofs.Common.{◌≡◌, ℕ, Option, get_or, ap, ◌∙◌, rules}
+use Rattle.std.proofs.Common.{ℕ, Option, get_or, ap, ◌∙◌, rules}
 use Rattle.routing.specs.Fields.{widths_of}
 use Rattle.routing.specs.Firsts.{first_some}
 use Rattle.routing.specs.Lawful.{ends_refusal}
