@@ -3,7 +3,7 @@ use crate::ends::one_field;
 use decision::class::Class;
 use decision::handling::Handling;
 use decision::queue::Queue;
-use fault::writing::{RewriteFault, WriteFault};
+use fault::writing::WriteFault;
 use file::reader::TableFile;
 use file::rules::{RuleList, Rules};
 use routing::refusal::Refusal;

@@ -142,7 +142,8 @@ module _ {K : Type 0} (written : K → List ℕ) (reading : List ℕ → K) (cod
       let es = get_or rows r blank in
       let f = and_parts _ _ (not-false _ (none_below (ends_bad ws es) suc d k i (lawful r h))) in
       let w = or_parts _ _ (none_below (width_bad ws) suc d k i width_fine) in
-      let p : 2 ^ get_or ws k 0 ≤ 2 ^ 32 = pow_mono (ltb-false _ _ w.1) in
+      let few : get_or ws k 0 ≤ 32 = ltb-false _ _ w.1 in
+      let p : 2 ^ get_or ws k 0 ≤ 2 ^ 32 = pow_mono few in
       let low : (at es k).low ≤ (at es k).high = leb-true _ _ f.0 in
       let high : (at es k).high < 2 ^ get_or ws k 0 = ltb-true _ _ f.1 in
       (omega arith, omega arith)

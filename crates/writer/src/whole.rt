@@ -1,12 +1,10 @@
 // Whole tables written to a file, through the stages.
-ghost use Rattle.std.specs.Prelude.{◌≡◌, ℕ, ◌<◌, ◌≤◌, List, length, Some, None, Ok, MatchResult, slice_index, slice_index_or};
+ghost use Rattle.std.specs.Prelude.{◌≡◌, ℕ, ◌<◌, ◌≤◌, length, Some, None, Ok, MatchResult, slice_index_or};
 ghost use Rattle.std.specs.List.{flat_map};
 ghost use Rattle.routing.specs.Fields.{widths_of};
 ghost use Rattle.routing.specs.Lawful.{ends_refusal};
 ghost use Rattle.fault.specs.Faults.{write_reason, rewrite_told};
-ghost use Rattle.file.specs.Layout.{rows_at, decisions_at, file_length, file_refusal};
-ghost use Rattle.routing.specs.Refusals.{told_by};
-ghost use Rattle.routing.specs.declared.refusal.Layer.TheVariants.{Writer as WriterLayer};
+ghost use Rattle.file.specs.Layout.{rows_at, decisions_at, file_length};
 ghost use Rattle.writer.specs.Stages.{put, plan_fields, plan_length, turned, changed};
 ghost use Rattle.file.specs.Contents.{blank};
 ghost use Rattle.writer.specs.Tables.{rows_bytes, file_bytes, rows_refusal, table_refusal, rewrite_refusal, ReadsAs};

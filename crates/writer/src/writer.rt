@@ -135,6 +135,7 @@ impl RowStage {
     }
 
     // Writes the next row.
+    #[tactic(auto, using(crate::proofs::Steps::row_settled))]
     pub fn row(mut self, out: &mut [u8], ends: [Ends; 8]) -> Result<RowStage, Refused<RowStage>>
         ensures answer { step_told result ≡ judged (row_refusal self ends (length out.old)) self (next_stage self) }
         ensures after { out.new ≡ changed (row_refusal self ends (length out.old)) out.old
