@@ -31,7 +31,7 @@ abbrev pub head_bytes : ℕ → ℕ → ℕ → List ℕ
 head_bytes d n code =
     1 ∷ d ∷ code ∷ 0 ∷ (n / 256) ∷ (n % 256) ∷ 0 ∷ 0 ∷ (four_bytes (rows_at d) ++ four_bytes (decisions_at d n))
 
--- the fields and the length of the file that a plan is for
+-- the fields, the layout and the length of the file that a plan is for
 abbrev pub plan_fields : Plan → ℕ
 plan_fields p = length (widths_of p.widths)
 

@@ -1,4 +1,4 @@
-use Rattle.std.proofs.Common.{◌≡◌, ◌+◌, ◌<◌, length, get_or, None, Ok, sym, refl, ap, ◌∙◌, arith, below_more}
+use Rattle.std.proofs.Common.{◌≡◌, ◌+◌, ◌<◌, ◌≤◌, length, get_or, None, Ok, sym, refl, ap, ◌∙◌, arith, below_more}
 use Rattle.std.proofs.lemmas.Option.{slice_get-get_or}
 use Rattle.file.specs.Layout.{decisions_at}
 use Rattle.writer.specs.Stages.{put, plan_fields, decision_place, decision_refusal}
@@ -27,11 +27,17 @@ loop-rule-preserved g c =
     let kept = c.decision-in-loop-rule.ensures.kept in
     let granted : c.decision-in-loop-rule.result ≡ Ok (stage_after p (k + 1)) = step_ok _ none _ _ _ (rw stands at answer) in
     let is = c.in_ok-stage.was in
+    let to = decision_place (stage_after p k) in
+    let one : c.decision-in-loop-rule.new.out ≡ put to (written x) c.loop-rule.out = step_changed _ none _ _ _ (rw stands at after) in
+    let room : to + length (written x) ≤ length c.args.out.now =
+    omega (arith, sized x, decision_room d p.rules p.size k (length c.args.out.now) (omega (arith, c.requires.counted)) c.requires.room)
+    in
+    let fine : decision_refusal c.loop-rule.stage g.K.Kind.CODE g.K.Kind.SIZE (length c.loop-rule.out) ≡ None = rw stands none in
     record {
       stage = cc;
       bytes =
-          step_changed _ none _ _ _ (rw stands at after)
-          ∙ ap (put (decision_place (stage_after p k)) (written x)) c.loop-rule.invariant.bytes
-          ∙ put_next written ds p.size k x (decisions_at d p.rules) (decision_place (stage_after p k)) c.args.out.now (here x) below (λ j l y. sized (get_or ds j y)) refl (omega (arith, sized x, decision_room d p.rules p.size k (length c.args.out.now) (omega (arith, c.requires.counted)) c.requires.room));
-      kept = below_more (λ j. (y : g.row.K.Denot) → g.K.Kind.reading (written (get_or ds j y)) ≡ get_or ds j y) k c.loop-rule.invariant.kept (λ y. rw (← here y) (let q : decision_refusal c.loop-rule.stage g.K.Kind.CODE g.K.Kind.SIZE (length c.loop-rule.out) ≡ None = rw stands none in kept q));
+          one
+          ∙ ap (put to (written x)) c.loop-rule.invariant.bytes
+          ∙ put_next written ds p.size k x (decisions_at d p.rules) to c.args.out.now (here x) below (λ j l y. sized (get_or ds j y)) refl room;
+      kept = below_more (λ j. (y : g.row.K.Denot) → g.K.Kind.reading (written (get_or ds j y)) ≡ get_or ds j y) k c.loop-rule.invariant.kept (λ y. rw (← here y) (kept fine));
     }

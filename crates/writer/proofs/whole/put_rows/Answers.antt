@@ -42,13 +42,17 @@ loop-rule-preserved g c =
     let answer = c.row-in-loop-rule.ensures.answer in
     let after = c.row-in-loop-rule.ensures.after in
     let granted : c.row-in-loop-rule.result ≡ Ok (stage_after p (k + 1)) = step_ok _ none _ _ _ (rw stands at answer) in
-    let one : length (row_bytes d es) ≡ 8 * d = row_length d es (omega arith) in
     let is = c.in_ok-stage.was in
+    let to = row_at (stage_after p k) in
+    let one : c.row-in-loop-rule.new.out ≡ put to (row_bytes d es) c.loop-rule.out = step_changed _ none _ _ _ (rw stands at after) in
+    let room : to + length (row_bytes d es) ≤ length c.args.out.now =
+    omega (arith, row_length d es (omega arith), row_room d p.rules p.size k (length c.args.out.now) (omega (arith, c.requires.counted)) c.requires.room)
+    in
     record {
       stage = cc;
       bytes =
-          step_changed _ none _ _ _ (rw stands at after)
-          ∙ ap (put (row_at (stage_after p k)) (row_bytes d es)) c.loop-rule.invariant.bytes
-          ∙ put_next (row_bytes d) rows (8 * d) k es (rows_at d) (row_at (stage_after p k)) c.args.out.now (c.row.ensures ∙ get_or_default rows k blank es below) below (rows_length d rows k few (omega arith) c.loop-rule.invariant.eights) (omega (arith, eight_times k d)) (omega (arith, row_room d p.rules p.size k (length c.args.out.now) (omega (arith, c.requires.counted)) c.requires.room));
+          one
+          ∙ ap (put to (row_bytes d es)) c.loop-rule.invariant.bytes
+          ∙ put_next (row_bytes d) rows (8 * d) k es (rows_at d) to c.args.out.now (c.row.ensures ∙ get_or_default rows k blank es below) below (rows_length d rows k few (omega arith) c.loop-rule.invariant.eights) (omega (arith, eight_times k d)) room;
       eights = below_more _ _ c.loop-rule.invariant.eights (ap length (sym c.row.ensures) ∙ long);
     }

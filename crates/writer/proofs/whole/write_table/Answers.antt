@@ -27,14 +27,12 @@ returns g c =
     let out = c.args.out.now in
     let p = c.in_ok-plan.plan in
     let n = c.count.ensures.of_rows in
-    let planned = c.in_ok-plan.ensures.1 in
-    let l : Planned ws (length rows) code size p =
-    record { of_widths = planned.of_widths; of_rules = planned.of_rules ∙ n; of_code = planned.of_code; of_size = planned.of_size }
-    in
-    let begun : start_refusal ws (length rows) size (length out) ≡ None = ap (λ m. start_refusal ws m size (length out)) (sym n) ∙ c.in_ok-plan.ensures.0 in
-    let s = start_settled ws (length rows) size (length out) begun in
-    let none : rows_refusal ws rows ≡ None = ap (λ vs. rows_refusal vs rows) (sym l.of_widths) ∙ sym c.in_default.ensures in
-    let fine : table_refusal ws rows size (length out) ≡ None = rw (begun, none) in
+    let plan = c.in_ok-plan.ensures in
+    let begun : (start_refusal ws (length rows) size (length out) ≡ None) × Planned ws (length rows) code size p = rw n at plan in
+    let l = begun.1 in
+    let s = start_settled ws (length rows) size (length out) begun.0 in
+    let none : rows_refusal ws rows ≡ None = rw (← l.of_widths) (sym c.in_default.ensures) in
+    let fine : table_refusal ws rows size (length out) ≡ None = rw (begun.0, none) in
     let lawful : (k : ℕ) → k < length rows → ends_refusal ws (get_or rows k blank) ≡ None = λ k h. some_none (λ r. ends_refusal ws (get_or rows r blank)) (length rows) k h none in
     let paired = sym n ∙ c.count.ensures.of_decisions in
     let eights = c.put_rows.ensures.eights in
