@@ -1,4 +1,5 @@
 // Widths, messages, intervals and classes.
+use crate::ends::one_field;
 use decision::class::Class;
 use decision::handling::Handling;
 use decision::kind::Kind;
@@ -7,12 +8,6 @@ use routing::refusal::{Layer, Refusal};
 use routing::rule::matches;
 use routing::widths::{Widths, WidthsFault};
 use std::test::Fail;
-
-const NONE: Ends = Ends { low: 0, high: 0 };
-
-fn one_field(low: u32, high: u32) -> [Ends; 8] {
-    [Ends { low, high }, NONE, NONE, NONE, NONE, NONE, NONE, NONE]
-}
 
 // The number and the place of the refusal of widths, (0, 0) for none.
 fn widths_told(widths: &[u8]) -> (u8, usize) {

@@ -1,9 +1,9 @@
 -- A lawful file, written again from what it holds, has the same bytes. Assumes nothing.
-use Rattle.std.proofs.Common.{◌≡◌, ℕ, suc, ◌+◌, ◌*◌, ◌/◌, ◌%◌, ◌<◌, ◌≤◌, false, cond, ltb, List, [], ◌∷◌, ◌++◌, map, length, get_or, take, drop, Some, None, Option, sym, refl, ap, ◌∙◌, mul_assoc, mul_comm, zero-add, arith}
-use Rattle.std.specs.List.{range_with_len, flat_map}
-use Rattle.std.proofs.lemmas.Nat.{mul-le, mul-add-lt}
+use Rattle.std.proofs.Common.{◌≡◌, ℕ, ◌+◌, ◌*◌, ◌/◌, ◌%◌, ◌<◌, false, cond, ltb, List, [], ◌∷◌, ◌++◌, length, Some, None, Option, sym, refl, ap, ◌∙◌, mul_assoc, mul_comm, zero-add, arith}
+use Rattle.std.specs.List.{flat_map}
+use Rattle.std.proofs.lemmas.Nat.{mul-add-lt}
 use Rattle.std.proofs.lemmas.List.FromFn.{take-map-range_with_len, length-map-range_with_len, get_or-map-range_with_len}
-use Rattle.std.proofs.lemmas.List.{take_all, append_assoc}
+use Rattle.std.proofs.lemmas.List.{take_all}
 use Rattle.std.proofs.lemmas.Bool.{lt-ltb, le-ltb, cond-true}
 use Rattle.routing.specs.declared.ends.Ends.{Ends}
 use Rattle.std.specs.Option.{option_map}
@@ -12,7 +12,7 @@ use Rattle.routing.specs.declared.refusal.Layer.TheVariants.{Writer}
 use Rattle.routing.specs.Firsts.{first_some}
 use Rattle.routing.specs.Lawful.{widths_refusal, ends_refusal}
 use Rattle.routing.proofs.First.{mapped_none, none_all, some_none}
-use Rattle.file.specs.Layout.{byte, four, four_bytes, part, fields, rules, rows_at, low_at, decisions_at, file_length, width_bytes, pair, no_ends, row_of, row_place, first_of, file_refusal}
+use Rattle.file.specs.Layout.{byte, four_bytes, part, fields, rules, rows_at, low_at, decisions_at, file_length, width_bytes, pair, no_ends, row_of, row_place, first_of, file_refusal}
 use Rattle.writer.specs.Stages.{ends_bytes, row_bytes, head_bytes, room_refusal, start_refusal, put, changed}
 use Rattle.file.specs.Contents.{blank, rows_of, decision_bytes, decisions_of}
 use Rattle.writer.specs.Tables.{rows_bytes, file_bytes, rows_refusal, table_refusal, first_told, rewrite_refusal}
@@ -46,12 +46,7 @@ module _ (bs : List ℕ) (code size : ℕ) (small : Bytes bs) (h : Header bs cod
       let q1 : part 4 4 bs ≡ (n / 256) ∷ (n % 256) ∷ 0 ∷ 0 ∷ [] = part_cells bs 4 (omega (arith, h.long)) ∙ rw (h.zero_6, h.zero_7, high, low) in
       let q2 : part 8 4 bs ≡ four_bytes (rows_at d) = sym (four_again bs 8 small (omega (arith, h.long))) ∙ ap four_bytes k.rows in
       let q3 : part 12 4 bs ≡ four_bytes (decisions_at d n) = sym (four_again bs 12 small (omega (arith, h.long))) ∙ ap four_bytes k.decisions in
-      sym
-      (part_more 0 4 12 bs
-      ∙ ap (λ x. x ++ part 4 12 bs) q0
-      ∙ ap (λ y. (1 ∷ d ∷ code ∷ 0 ∷ []) ++ y) (part_more 4 4 8 bs)
-      ∙ ap (λ x. (1 ∷ d ∷ code ∷ 0 ∷ []) ++ (x ++ part 8 8 bs)) q1
-      ∙ ap (λ y. (1 ∷ d ∷ code ∷ 0 ∷ []) ++ (((n / 256) ∷ (n % 256) ∷ 0 ∷ 0 ∷ []) ++ y)) (part_more 8 4 4 bs ∙ ap (λ x. x ++ part 12 4 bs) q2 ∙ ap (λ y. four_bytes (rows_at d) ++ y) q3))
+      rw (part_more 0 4 12 bs, q0, part_more 4 4 8 bs, q1, part_more 8 4 4 bs, q2, q3) refl
 
   -- a row
   row_again : (r : ℕ) → r < n → row_bytes d (row_of bs r) ≡ part (low_at d (r * d)) (8 * d) bs
@@ -92,18 +87,19 @@ module _ {K : Type 0} (written : K → List ℕ) (reading : List ℕ → K) (bs 
       let n = rules bs in
       let lw : length (width_bytes bs) ≡ d = length_part 16 d bs (omega (arith, k.long)) in
       let lr : length (rows_of bs) ≡ n = length-map-range_with_len (row_of bs) 0 n in
-      let body = rows_bytes (length (width_bytes bs)) (rows_of bs) ++ flat_map written (decisions_of reading size bs) in
-      ap (λ m. (head_bytes m (length (rows_of bs)) code ++ width_bytes bs) ++ body) lw
-      ∙ ap (λ m. (head_bytes d m code ++ width_bytes bs) ++ body) lr
-      ∙ ap (λ x. (x ++ width_bytes bs) ++ body) (head_again bs code size small h k)
-      ∙ ap (λ x. x ++ body) (sym (part_more 0 16 d bs))
-      ∙ ap (λ m. part 0 (16 + d) bs ++ (rows_bytes m (rows_of bs) ++ flat_map written (decisions_of reading size bs))) lw
-      ∙ ap (λ x. part 0 (16 + d) bs ++ (x ++ flat_map written (decisions_of reading size bs))) (rows_again bs code size small h k)
-      ∙ ap (λ x. part 0 (16 + d) bs ++ (part (16 + d) (8 * (d * n)) bs ++ x)) decisions_again
-      ∙ ap (λ x. part 0 (16 + d) bs ++ x) (sym (part_more (16 + d) (8 * (d * n)) (n * size) bs))
-      ∙ ap (λ m. part 0 (16 + d) bs ++ part m (8 * (d * n) + n * size) bs) (sym (zero-add (16 + d)))
+      let head : head_bytes (length (width_bytes bs)) (length (rows_of bs)) code ≡ part 0 16 bs = rw (lw, lr) (head_again bs code size small h k) in
+      let rows : rows_bytes (length (width_bytes bs)) (rows_of bs) ≡ part (16 + d) (8 * (d * n)) bs = rw lw (rows_again bs code size small h k) in
+      let decisions = decisions_again in
+      let front : part 0 (16 + d) bs ≡ part 0 16 bs ++ width_bytes bs = part_more 0 16 d bs in
+      let back : part (16 + d) (8 * (d * n) + n * size) bs ≡ part (16 + d) (8 * (d * n)) bs ++ part (decisions_at d n) (n * size) bs =
+      part_more (16 + d) (8 * (d * n)) (n * size) bs
+      in
+      let both : part 0 (16 + d) bs ++ part (16 + d) (8 * (d * n) + n * size) bs ≡ bs =
+      ap (λ m. part 0 (16 + d) bs ++ part m (8 * (d * n) + n * size) bs) (sym (zero-add (16 + d)))
       ∙ sym (part_more 0 (16 + d) (8 * (d * n) + n * size) bs)
       ∙ take_all (16 + d + (8 * (d * n) + n * size)) bs (omega (arith, k.long))
+      in
+      cc
 
   -- and it is refused only for lack of room
   pub rewritten : (room : ℕ) → widths_refusal (width_bytes bs) ≡ None → first_some (row_place bs) (rules bs) ≡ None

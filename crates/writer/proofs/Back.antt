@@ -1,29 +1,29 @@
 -- What was written is read again. Assumes nothing.
-use Rattle.std.proofs.Common.{◌≡◌, ℕ, suc, ◌+◌, ◌-◌, ◌*◌, ◌^◌, ◌<◌, ◌≤◌, Bool, true, false, cond, not, eqb, ltb, leb, List, [], ◌∷◌, ◌++◌, map, length, get_or, take, drop, Some, None, Option, sym, refl, ap, ◌∙◌, ⊎_elim, mul_assoc, mul_comm, add-mul, arith, pow_mono}
+use Rattle.std.proofs.Common.{◌≡◌, ℕ, suc, ◌+◌, ◌-◌, ◌*◌, ◌^◌, ◌<◌, ◌≤◌, cond, not, ltb, List, ◌++◌, map, length, get_or, take, drop, None, sym, refl, ap, ◌∙◌, mul_assoc, mul_comm, arith, pow_mono}
 use Rattle.std.specs.List.{range_with_len, flat_map}
 use Rattle.std.specs.Option.{option_map}
 use Rattle.std.proofs.lemmas.Nat.{div-add-mod', mul-le}
 use Rattle.std.proofs.lemmas.List.FromFn.{get_or-map-range_with_len, fill_by_all}
-use Rattle.std.proofs.lemmas.List.{append_assoc, length-append, length-map, take_at, get_or-take, get_or_default, get_or-map, length-take-le}
-use Rattle.std.proofs.lemmas.Bool.{lt-ltb, le-ltb, eq-eqb, and_parts, leb-true, ltb-true, not-false, or_parts, ltb-false, cond-true}
-use Rattle.std.proofs.lemmas.Bool.Decides.{nat_tests}
+use Rattle.std.proofs.lemmas.List.{append_assoc, length-append, length-map, take_at, get_or-take, get_or-map, length-take-le}
+use Rattle.std.proofs.lemmas.Bool.{lt-ltb, and_parts, leb-true, ltb-true, not-false, or_parts, ltb-false, cond-true}
 use Rattle.routing.specs.declared.ends.Ends.{Ends}
 use Rattle.routing.specs.Firsts.{first_some}
-use Rattle.routing.specs.Lawful.{widths_refusal, ends_refusal, ends_bad, fits, outside, width_refusal, width_bad}
+use Rattle.routing.specs.Lawful.{widths_refusal, ends_refusal, ends_bad, fits, width_refusal, width_bad}
 use Rattle.routing.specs.Space.{at}
 use Rattle.routing.proofs.First.{none_all, none_below, none_from}
-use Rattle.file.specs.Layout.{byte, four, four_bytes, part, fields, rules, rows_at, low_at, decisions_at, file_length, width_bytes, pair, no_ends, eight, row_of, row_place, header_refusal, counts_refusal, body_refusal, file_refusal, first_of, at_byte}
+use Rattle.file.specs.Layout.{part, fields, rules, rows_at, low_at, decisions_at, file_length, width_bytes, pair, no_ends, eight, row_of, row_place, header_refusal, counts_refusal, body_refusal, file_refusal}
 use Rattle.writer.specs.Stages.{put, ends_bytes, row_bytes, head_bytes, plan_fields, Planned}
 use Rattle.writer.specs.declared.stage.Plan.{Plan}
-use Rattle.writer.specs.declared.stage.RowStage.{RowStage}
-use Rattle.writer.specs.declared.stage.DecisionStage.{DecisionStage}
-use Rattle.file.specs.Contents.{blank, rows_of, decision_bytes, decisions_of}
+use Rattle.writer.specs.declared.stage.Stage.{Stage}
+use Rattle.writer.specs.declared.stage.Rows.{Rows}
+use Rattle.writer.specs.declared.stage.Decisions.{Decisions}
+use Rattle.file.specs.Contents.{blank, rows_of, decision_bytes}
 use Rattle.writer.specs.Tables.{trimmed, rows_bytes, file_bytes, ReadsAs}
-use Rattle.writer.proofs.Joins.{joined_split, joined_length, front_length}
+use Rattle.writer.proofs.Joins.{joined_split, joined_length, front_length, rows_length}
 use Rattle.writer.proofs.Numbers.{four_back, pair_at}
 use Rattle.file.proofs.Parts.{part_at, counted_items}
-use Rattle.writer.proofs.Puts.{put_put, row_length}
-use Rattle.writer.proofs.Steps.{rows_done, decisions_done}
+use Rattle.writer.proofs.Puts.{put_put}
+use Rattle.writer.proofs.Steps.{stage_after}
 use Rattle.file.proofs.Refused.{header_lawful, counts_lawful, by_body}
 use Rattle.writer.proofs.Rooms.{eight_times}
 use Rattle.file.proofs.Rows.{eight_same}
@@ -87,18 +87,13 @@ module _ {K : Type 0} (written : K → List ℕ) (reading : List ℕ → K) (cod
   front_long = omega arith
 
   row_long : (k : ℕ) → k < n → (x : List Ends) → length (row_bytes d (get_or rows k x)) ≡ 8 * d
-  row_long k h x =
-      let e : get_or rows k x ≡ get_or rows k blank = get_or_default rows k x blank h in
-      ap (λ es. length (row_bytes d es)) e ∙ row_length d (get_or rows k blank) (omega (arith, eights k h, few))
-
-  decision_long : (k : ℕ) → k < length ds → (x : K) → length (written (get_or ds k x)) ≡ size
-  decision_long k h x = sized (get_or ds k x)
+  row_long = rows_length d rows n few (omega arith) eights
 
   pub rows_long : length (rows_bytes d rows) ≡ 8 * (d * n)
   rows_long = joined_length (row_bytes d) rows (8 * d) row_long ∙ mul_comm n (8 * d) ∙ mul_assoc 8 d n
 
   pub decisions_long : length (flat_map written ds) ≡ n * size
-  decisions_long = joined_length written ds size decision_long ∙ ap (λ m. m * size) (sym paired)
+  decisions_long = joined_length written ds size (λ k h x. sized (get_or ds k x)) ∙ ap (λ m. m * size) (sym paired)
 
   pub file_long : length file ≡ file_length d n size
   file_long =
@@ -129,7 +124,7 @@ module _ {K : Type 0} (written : K → List ℕ) (reading : List ℕ → K) (cod
       let b' = flat_map ends_bytes (drop (suc k) (take d es)) in
       let one = ends_bytes (at es k) in
       let dec = flat_map written ds in
-      let la : length a ≡ r * (8 * d) = front_length (row_bytes d) rows r (8 * d) (omega arith) row_long in
+      let la : length a ≡ r * (8 * d) = front_length (row_bytes d) rows r (8 * d) (omega arith) (λ j l. row_long j (omega arith)) in
       let la' : length a' ≡ k * 8 = front_length ends_bytes (take d es) k 8 (omega (arith, length-take-le d es (omega (arith, eights r h, few)))) (λ _ _ _. refl) in
       let m = eight_times r d in (
         (front ++ a) ++ a',
@@ -147,7 +142,8 @@ module _ {K : Type 0} (written : K → List ℕ) (reading : List ℕ → K) (cod
       let es = get_or rows r blank in
       let f = and_parts _ _ (not-false _ (none_below (ends_bad ws es) suc d k i (lawful r h))) in
       let w = or_parts _ _ (none_below (width_bad ws) suc d k i width_fine) in
-      let p : 2 ^ get_or ws k 0 ≤ 2 ^ 32 = pow_mono (ltb-false _ _ w.1) in
+      let few : get_or ws k 0 ≤ 32 = ltb-false _ _ w.1 in
+      let p : 2 ^ get_or ws k 0 ≤ 2 ^ 32 = pow_mono few in
       let low : (at es k).low ≤ (at es k).high = leb-true _ _ f.0 in
       let high : (at es k).high < 2 ^ get_or ws k 0 = ltb-true _ _ f.1 in
       (omega arith, omega arith)
@@ -179,7 +175,7 @@ module _ {K : Type 0} (written : K → List ℕ) (reading : List ℕ → K) (cod
       let b = flat_map written (drop (suc r) ds) in
       let all = rows_bytes d rows in
       let one = written (get_or ds r x) in
-      let la : length a ≡ r * size = front_length written ds r size (omega arith) decision_long in
+      let la : length a ≡ r * size = front_length written ds r size (omega arith) (λ j l x. sized (get_or ds j x)) in
       let place : length ((front ++ all) ++ a) ≡ decisions_at d n + r * size =
       length-append (front ++ all) a ∙ omega (arith, length-append front all, front_long, rows_long)
       in
@@ -242,7 +238,7 @@ module _ {K : Type 0} (written : K → List ℕ) (reading : List ℕ → K) (cod
       }
 
   -- a plan's stages put the whole file
-  pub table_put : (p : Plan) → Planned ws n code size p → (s : RowStage) → s ≡ rows_done p 0 → (t : DecisionStage) → t ≡ decisions_done p 0
+  pub table_put : (p : Plan) → Planned ws n code size p → (s : Stage Rows) → s ≡ stage_after p 0 → (t : Stage Decisions) → t ≡ stage_after p 0
       → (out o₁ o₂ o₃ : List ℕ) → o₁ ≡ put 0 (head_bytes d p.rules p.code ++ ws) out
       → o₂ ≡ put (rows_at (plan_fields s.plan)) (rows_bytes (plan_fields s.plan) rows) o₁
       → o₃ ≡ put (decisions_at (plan_fields t.plan) t.plan.rules) (flat_map written ds) o₂ → file_length d n size ≤ length out

@@ -1,8 +1,8 @@
 mod Again
 mod Back
+mod Finds
 mod Joins
 mod Numbers
-mod Pieces
 mod Puts
 mod Rooms
 mod Steps

@@ -1,6 +1,6 @@
 -- Numbers of four bytes, written and read. Assumes nothing.
-use Rattle.std.proofs.Common.{◌≡◌, ℕ, ◌+◌, ◌*◌, ◌/◌, ◌%◌, ◌<◌, ◌≤◌, List, [], ◌∷◌, ◌++◌, length, get_or, take, drop, sym, refl, ap, ◌∙◌, ⊎_elim, add-zero, mod-eq_of_lt, arith}
-use Rattle.std.proofs.lemmas.Nat.{shr-shr, div_below, div-add-mod'}
+use Rattle.std.proofs.Common.{◌≡◌, ℕ, ◌+◌, ◌<◌, ◌≤◌, List, [], ◌∷◌, ◌++◌, length, get_or, drop, sym, refl, ap, ◌∙◌, ⊎_elim, add-zero, arith}
+use Rattle.std.proofs.lemmas.Nat.{be_bytes_4, from_be_bytes-to_be_bytes_4}
 use Rattle.std.proofs.lemmas.List.{get_or-append-add, get_or-take, get_or-drop, get_or_past, append_assoc, length-append, length-take}
 use Rattle.std.proofs.lemmas.Bool.{cases_lt}
 use Rattle.routing.specs.declared.ends.Ends.{Ends}
@@ -9,21 +9,9 @@ use Rattle.file.specs.Layout.{byte, four, four_bytes, part, pair, low_at}
 use Rattle.writer.specs.Stages.{ends_bytes}
 use Rattle.file.proofs.Parts.{part_more, length_part}
 
--- a number from its bytes, the lowest split off first
-bytes_sum : (n q₁ q₂ q₃ r₀ r₁ r₂ : ℕ) → q₁ * 256 + r₀ ≡ n → q₂ * 256 + r₁ ≡ q₁ → q₃ * 256 + r₂ ≡ q₂ → q₃ * 16777216 + r₂ * 65536 + r₁ * 256 + r₀ ≡ n
-bytes_sum n q₁ q₂ q₃ r₀ r₁ r₂ a b c = omega arith
-
 -- what is written is read
 pub four_back : (n : ℕ) → n < 4294967296 → four (four_bytes n) 0 ≡ n
-four_back n h =
-    let q₁ = n / 256 in
-    let q₂ = n / 65536 in
-    let q₃ = n / 16777216 in
-    let top : q₃ % 256 ≡ q₃ = mod-eq_of_lt (div_below n 16777216 256 (omega arith) h) in
-    ap (λ q. q * 16777216 + q₂ % 256 * 65536 + q₁ % 256 * 256 + n % 256) top
-    ∙ bytes_sum n q₁ q₂ q₃ (n % 256) (q₁ % 256) (q₂ % 256) (div-add-mod' n 256)
-    (ap (λ q. q * 256 + q₁ % 256) (sym (shr-shr n 8 8)) ∙ div-add-mod' q₁ 256)
-    (ap (λ q. q * 256 + q₂ % 256) (sym (shr-shr n 16 8)) ∙ div-add-mod' q₂ 256)
+four_back n h = let e = from_be_bytes-to_be_bytes_4 n h in omega arith
 
 -- wherever it stands
 pub four_at_lem : (ps qs : List ℕ) (n i : ℕ) → n < 4294967296 → length ps ≡ i → four (ps ++ (four_bytes n ++ qs)) i ≡ n
@@ -50,15 +38,6 @@ pair_at ps qs e bs d k l h s i =
     in
     λ j. record { low = p j; high = q j }
 
-digits : (a b c d : ℕ) → a < 256 → b < 256 → c < 256 → d < 256 → four_bytes (a * 16777216 + b * 65536 + c * 256 + d) ≡ a ∷ b ∷ c ∷ d ∷ []
-digits a b c d h i j k =
-    let n = a * 16777216 + b * 65536 + c * 256 + d in
-    let e1 : n / 16777216 % 256 ≡ a = omega arith in
-    let e2 : n / 65536 % 256 ≡ b = omega arith in
-    let e3 : n / 256 % 256 ≡ c = omega arith in
-    let e4 : n % 256 ≡ d = omega arith in
-    rw (e1, e2, e3, e4)
-
 abbrev pub Bytes : List ℕ → Type 0
 Bytes bs = (i : ℕ) → get_or bs i 0 < 256
 
@@ -80,7 +59,7 @@ part_cells bs i l =
 
 -- what is read, written again, is what stood there
 pub four_again : (bs : List ℕ) (i : ℕ) → Bytes bs → i + 4 ≤ length bs → four_bytes (four bs i) ≡ part i 4 bs
-four_again bs i h l = digits (byte bs i) (byte bs (i + 1)) (byte bs (i + 2)) (byte bs (i + 3)) (h i) (h (i + 1)) (h (i + 2)) (h (i + 3)) ∙ sym (part_cells bs i l)
+four_again bs i h l = be_bytes_4 (part i 4 bs) (four bs i) (length_part i 4 bs l) (part_bytes bs i 4 h) (rw (part_cells bs i l) (omega arith))
 
 pub ends_again : (bs : List ℕ) (d k : ℕ) → Bytes bs → low_at d k + 8 ≤ length bs → ends_bytes (pair bs d k) ≡ part (low_at d k) 8 bs
 ends_again bs d k h l =

@@ -1,23 +1,20 @@
 -- What each step of writing refuses and writes. Assumes nothing.
-use Rattle.std.specs.Prelude.{◌≡◌, ℕ, ◌+◌, ◌*◌, ◌/◌, ◌%◌, ◌≤◌, cond, not, ◌||◌, List, [], ◌∷◌, ◌++◌, length, take, drop, Some, None, Option, ◌==◌, nat_le, nat_lt}
+use Rattle.std.specs.Prelude.{◌≡◌, ℕ, ◌+◌, ◌*◌, ◌/◌, ◌%◌, cond, not, ◌||◌, List, ◌∷◌, ◌++◌, length, take, drop, Some, None, Option, Result, Ok, Err, ◌==◌, nat_le, nat_lt}
 use Rattle.std.specs.List.{flat_map}
 use Rattle.std.specs.Option.{option_map}
+use Rattle.std.specs.Result.{result_err}
 use Rattle.routing.specs.declared.ends.Ends.{Ends}
 use Rattle.routing.specs.Fields.{widths_of}
 use Rattle.routing.specs.Lawful.{widths_refusal, ends_refusal}
+use Rattle.fault.specs.declared.writing.WriteFault.{WriteFault}
 use Rattle.fault.specs.Faults.{write_reason}
+use Rattle.file.specs.declared.layout.Layout.{Layout}
 use Rattle.file.specs.Layout.{four_bytes, rows_at, low_at, decisions_at, file_length, first_of}
 use Rattle.writer.specs.declared.stage.Plan.{Plan}
-use Rattle.writer.specs.declared.stage.RowStage.{RowStage}
-use Rattle.writer.specs.declared.stage.DecisionStage.{DecisionStage}
-use Rattle.writer.specs.declared.stage.RowStep.{RowStep}
-use Rattle.writer.specs.declared.stage.RowStep.TheVariants as row
-use Rattle.writer.specs.declared.stage.TurnStep.{TurnStep}
-use Rattle.writer.specs.declared.stage.TurnStep.TheVariants as turn
-use Rattle.writer.specs.declared.stage.DecisionStep.{DecisionStep}
-use Rattle.writer.specs.declared.stage.DecisionStep.TheVariants as decision
-use Rattle.writer.specs.declared.stage.EndStep.{EndStep}
-use Rattle.writer.specs.declared.stage.EndStep.TheVariants as end
+use Rattle.writer.specs.declared.stage.Rows.{Rows}
+use Rattle.writer.specs.declared.stage.Decisions.{Decisions}
+use Rattle.writer.specs.declared.stage.Stage.{Stage}
+use Rattle.writer.specs.declared.stage.Refused.{Refused}
 
 -- a buffer with some bytes at a place, and all others as they were
 abbrev pub put : ℕ → List ℕ → List ℕ → List ℕ
@@ -34,9 +31,12 @@ abbrev pub head_bytes : ℕ → ℕ → ℕ → List ℕ
 head_bytes d n code =
     1 ∷ d ∷ code ∷ 0 ∷ (n / 256) ∷ (n % 256) ∷ 0 ∷ 0 ∷ (four_bytes (rows_at d) ++ four_bytes (decisions_at d n))
 
--- the fields and the length of the file that a plan is for
+-- the fields, the layout and the length of the file that a plan is for
 abbrev pub plan_fields : Plan → ℕ
 plan_fields p = length (widths_of p.widths)
+
+abbrev pub plan_layout : Plan → Layout
+plan_layout p = record { fields = plan_fields p; rules = p.rules; size = p.size }
 
 abbrev pub plan_length : Plan → ℕ
 plan_length p = file_length (plan_fields p) p.rules p.size
@@ -48,7 +48,7 @@ pub record Planned (ws : List ℕ) (n code size : ℕ) (p : Plan) : Type 0 where
   pub of_size : p.size ≡ size
 
 -- a stage before its first row
-pub record Begun (ws : List ℕ) (n code size : ℕ) (s : RowStage) : Type 0 where
+pub record Begun (ws : List ℕ) (n code size : ℕ) (s : Stage Rows) : Type 0 where
   pub planned : Planned ws n code size s.plan
   pub none_done : s.done ≡ 0
 
@@ -67,21 +67,14 @@ abbrev pub changed : {R : Type 0} → Option R → List ℕ → List ℕ → Lis
 changed None before after = after
 changed (Some reason) before after = before
 
-abbrev pub row_told : RowStep → Outcome RowStage RowStage
-row_told (row.Next t) = granted t
-row_told (row.Refused s f) = refused s (write_reason f)
+-- why a test says no, if it does
+abbrev pub reason_of : Result (Unit {0}) WriteFault → Option (ℕ × ℕ)
+reason_of r = option_map write_reason (result_err r)
 
-abbrev pub turn_told : TurnStep → Outcome RowStage DecisionStage
-turn_told (turn.Next t) = granted t
-turn_told (turn.Refused s f) = refused s (write_reason f)
-
-abbrev pub decision_told : DecisionStep → Outcome DecisionStage DecisionStage
-decision_told (decision.Next t) = granted t
-decision_told (decision.Refused s f) = refused s (write_reason f)
-
-abbrev pub end_told : EndStep → Outcome DecisionStage ℕ
-end_told (end.Done n) = granted n
-end_told (end.Refused s f) = refused s (write_reason f)
+-- what a step's answer tells
+abbrev pub step_told : {S T : Type 0} → Result T (Refused S) → Outcome S T
+step_told (Ok t) = granted t
+step_told (Err r) = refused r.stage (write_reason r.fault)
 
 -- the buffer is shorter than the file
 abbrev pub room_refusal : ℕ → ℕ → Option (ℕ × ℕ)
@@ -92,41 +85,34 @@ abbrev pub start_refusal : List ℕ → ℕ → ℕ → ℕ → Option (ℕ × �
 start_refusal ws n size room =
     first_of (widths_refusal ws) (cond (nat_lt 512 n) (Some (5, 4)) (room_refusal (file_length (length ws) n size) room))
 
--- a row: 16, 17, 9
-abbrev pub row_refusal : RowStage → List Ends → ℕ → Option (ℕ × ℕ)
-row_refusal s es room =
-    first_of (room_refusal (plan_length s.plan) room)
-    (cond (nat_le s.plan.rules s.done) (Some (17, s.done))
-    (option_map (λ field. (9, field)) (ends_refusal (widths_of s.plan.widths) es)))
+module _ {P : Type 0} where
+  -- a step into the file: 16, 17
+  abbrev pub ready_refusal : Stage P → ℕ → Option (ℕ × ℕ)
+  ready_refusal s room = first_of (room_refusal (plan_length s.plan) room) (cond (nat_le s.plan.rules s.done) (Some (17, s.done)) None)
 
-abbrev pub row_next : RowStage → RowStage
-row_next s = record { plan = s.plan; done = s.done + 1 }
+  -- a turn, an end: 17
+  abbrev pub early_refusal : Stage P → Option (ℕ × ℕ)
+  early_refusal s = cond (nat_lt s.done s.plan.rules) (Some (17, s.done)) None
+
+  abbrev pub next_stage : Stage P → Stage P
+  next_stage s = record s { done = s.done + 1 }
+
+-- a row: 16, 17, 9
+abbrev pub row_refusal : Stage Rows → List Ends → ℕ → Option (ℕ × ℕ)
+row_refusal s es room = first_of (ready_refusal s room) (option_map (λ field. (9, field)) (ends_refusal (widths_of s.plan.widths) es))
 
 -- where the next row begins
-abbrev pub row_at : RowStage → ℕ
+abbrev pub row_at : Stage Rows → ℕ
 row_at s = low_at (plan_fields s.plan) (s.done * plan_fields s.plan)
 
--- a turn: 17
-abbrev pub turn_refusal : RowStage → Option (ℕ × ℕ)
-turn_refusal s = cond (nat_lt s.done s.plan.rules) (Some (17, s.done)) None
-
-abbrev pub turned : RowStage → DecisionStage
-turned s = record { plan = s.plan; done = 0 }
+abbrev pub turned : Stage Rows → Stage Decisions
+turned s = record { plan = s.plan; done = 0; phase = record {} }
 
 -- a decision of the kind with a code and a size: 16, 17, 4
-abbrev pub decision_refusal : DecisionStage → ℕ → ℕ → ℕ → Option (ℕ × ℕ)
+abbrev pub decision_refusal : Stage Decisions → ℕ → ℕ → ℕ → Option (ℕ × ℕ)
 decision_refusal s code size room =
-    first_of (room_refusal (plan_length s.plan) room)
-    (cond (nat_le s.plan.rules s.done) (Some (17, s.done))
-    (cond (not (code == s.plan.code) || not (size == s.plan.size)) (Some (4, 2)) None))
-
-abbrev pub decision_next : DecisionStage → DecisionStage
-decision_next s = record { plan = s.plan; done = s.done + 1 }
+    first_of (ready_refusal s room) (cond (not (code == s.plan.code) || not (size == s.plan.size)) (Some (4, 2)) None)
 
 -- where the next decision begins
-abbrev pub decision_place : DecisionStage → ℕ
+abbrev pub decision_place : Stage Decisions → ℕ
 decision_place s = decisions_at (plan_fields s.plan) s.plan.rules + s.done * s.plan.size
-
--- an end: 17
-abbrev pub end_refusal : DecisionStage → Option (ℕ × ℕ)
-end_refusal s = cond (nat_lt s.done s.plan.rules) (Some (17, s.done)) None

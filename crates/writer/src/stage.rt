@@ -1,7 +1,10 @@
 // The stages of a file that is written: first its rows, then its decisions. A stage holds plain numbers and no part of the file; it is
-// neither copied nor made by hand, and the type says what can be written next.
+// neither copied nor made by hand, and its phase says what can be written next.
+ghost use Rattle.std.specs.Prelude.{◌≡◌};
+
 use fault::writing::WriteFault;
 use routing::widths::Widths;
+use std::marker::PhantomData;
 
 // What the file is for: its widths, how many rules it gets, and the code and the size of its decisions' kind.
 #[derive(Clone, Copy)]
@@ -12,36 +15,46 @@ pub(crate) struct Plan {
     pub(crate) size: u16,
 }
 
-// So many rows stand in the file.
-pub struct RowStage {
+// The phases: what is written next.
+pub struct Rows;
+
+pub struct Decisions;
+
+// So many rows stand in the file, or all rows and so many decisions.
+pub struct Stage<P> {
     pub(crate) plan: Plan,
     pub(crate) done: u16,
+    pub(crate) phase: PhantomData<P>,
 }
 
-// All rows stand in the file, and so many decisions.
-pub struct DecisionStage {
-    pub(crate) plan: Plan,
-    pub(crate) done: u16,
+pub type RowStage = Stage<Rows>;
+
+pub type DecisionStage = Stage<Decisions>;
+
+// A step that was refused: the same stage back, and the fault.
+pub struct Refused<S> {
+    pub stage: S,
+    pub fault: WriteFault,
 }
 
-// Each step gives the next stage, or the same one back with the fault.
-pub enum RowStep {
-    Next(RowStage),
-    Refused(RowStage, WriteFault),
+impl<P> Stage<P> {
+    // Gives the file up.
+    pub fn abandon(self) {
+        let Stage {
+            plan: _,
+            done: _,
+            phase: _,
+        } = self;
+    }
 }
 
-pub enum TurnStep {
-    Next(DecisionStage),
-    Refused(RowStage, WriteFault),
-}
+// Gives the file up, and keeps the fault.
+impl<P> From<Refused<Stage<P>>> for WriteFault {
+    ghost from_gives = { λ r f. f ≡ r.fault };
 
-pub enum DecisionStep {
-    Next(DecisionStage),
-    Refused(DecisionStage, WriteFault),
-}
-
-pub enum EndStep {
-    // the file's length
-    Done(usize),
-    Refused(DecisionStage, WriteFault),
+    fn from(value: Refused<Stage<P>>) -> WriteFault {
+        let Refused { stage, fault } = value;
+        stage.abandon();
+        fault
+    }
 }

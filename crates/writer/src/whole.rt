@@ -1,17 +1,15 @@
 // Whole tables written to a file, through the stages.
-ghost use Rattle.std.specs.Prelude.{◌≡◌, ℕ, ◌<◌, ◌≤◌, List, length, Some, None, MatchResult, slice_index, slice_index_or};
+ghost use Rattle.std.specs.Prelude.{◌≡◌, ℕ, ◌<◌, ◌≤◌, length, Some, None, Ok, MatchResult, slice_index_or};
 ghost use Rattle.std.specs.List.{flat_map};
 ghost use Rattle.routing.specs.Fields.{widths_of};
 ghost use Rattle.routing.specs.Lawful.{ends_refusal};
 ghost use Rattle.fault.specs.Faults.{write_reason, rewrite_told};
-ghost use Rattle.file.specs.Layout.{rows_at, decisions_at, file_length, file_refusal};
-ghost use Rattle.routing.specs.Refusals.{told_by};
-ghost use Rattle.routing.specs.declared.refusal.Layer.TheVariants.{Writer as WriterLayer};
-ghost use Rattle.writer.specs.Stages.{put, plan_fields, plan_length, turn_told, turned, end_told, granted, changed};
+ghost use Rattle.file.specs.Layout.{rows_at, decisions_at, file_length};
+ghost use Rattle.writer.specs.Stages.{put, plan_fields, plan_length, turned, changed};
 ghost use Rattle.file.specs.Contents.{blank};
 ghost use Rattle.writer.specs.Tables.{rows_bytes, file_bytes, rows_refusal, table_refusal, rewrite_refusal, ReadsAs};
 
-use crate::stage::{DecisionStage, DecisionStep, EndStep, Plan, RowStage, RowStep, TurnStep};
+use crate::stage::{DecisionStage, Plan, RowStage};
 use decision::kind::Kind;
 use fault::writing::{RewriteFault, WriteFault};
 use file::reader::TableFile;
@@ -20,57 +18,50 @@ use routing::widths::Widths;
 
 // The first field of the first rule whose ends make no interval of it.
 fn rows_fault<K: Kind, R: Rules<K>>(widths: Widths, rules: &R) -> Option<u8>
-    ensures value { result ≡ rows_refusal (widths_of widths) (R.Rules.rows rules.now) }
-    ensures eights { result ≡ None → (k : ℕ) → k < length (R.Rules.rows rules.now) → length (slice_index_or (R.Rules.rows rules.now) k blank) ≡ 8 }
+    ensures { result ≡ rows_refusal (widths_of widths) (R.rows rules.now) }
 {
-    for rule in 0..rules.count() {
-        if let Some(field) = widths.ends_fault(&rules.row(rule)) {
-            return Some(field);
-        }
-    }
-    None
+    (0..rules.count()).find_map(|rule| widths.ends_fault(&rules.row(rule)))
 }
 
-// Writes all rows and turns.
-fn put_rows<K: Kind, R: Rules<K>>(start: RowStage, rules: &R, out: &mut [u8]) -> TurnStep
-    requires begun { start.done ≡ 0 }
-    requires counted { start.plan.rules ≡ length (R.Rules.rows rules.now) }
-    requires room { plan_length start.plan ≤ length out.old }
-    requires lawful { (k : ℕ) → k < length (R.Rules.rows rules.now) → ends_refusal (widths_of start.plan.widths) (slice_index_or (R.Rules.rows rules.now) k blank) ≡ None }
-    ensures answer { turn_told result ≡ granted (turned start) }
-    ensures after { out.new ≡ put (rows_at (plan_fields start.plan)) (rows_bytes (plan_fields start.plan) (R.Rules.rows rules.now)) out.old }
+// Writes all rows and turns. There is no slice to go over: a list of rules is a trait.
+fn put_rows<K: Kind, R: Rules<K>>(
+    mut stage: RowStage,
+    rules: &R,
+    out: &mut [u8],
+) -> Result<DecisionStage, WriteFault>
+    requires begun { stage.done ≡ 0 }
+    requires counted { stage.plan.rules ≡ length (R.rows rules.now) }
+    requires room { plan_length stage.plan ≤ length out.old }
+    requires lawful { (k : ℕ) → k < length (R.rows rules.now) → ends_refusal (widths_of stage.plan.widths) (slice_index_or (R.rows rules.now) k blank) ≡ None }
+    ensures answer { result ≡ Ok (turned stage) }
+    ensures after { out.new ≡ put (rows_at (plan_fields stage.plan)) (rows_bytes (plan_fields stage.plan) (R.rows rules.now)) out.old }
+    ensures eights { (k : ℕ) → k < length (R.rows rules.now) → length (slice_index_or (R.rows rules.now) k blank) ≡ 8 }
 {
-    let mut stage = start;
     for rule in 0..rules.count() {
-        stage = match stage.row(out, rules.row(rule)) {
-            RowStep::Next(next) => next,
-            RowStep::Refused(back, fault) => return TurnStep::Refused(back, fault),
-        };
+        stage = stage.row(out, rules.row(rule))?;
     }
-    stage.turn()
+    Ok(stage.turn()?)
 }
 
-// Writes all decisions and ends.
-fn put_decisions<K: Kind, R: Rules<K>>(start: DecisionStage, rules: &R, out: &mut [u8]) -> EndStep
-    requires begun { start.done ≡ 0 }
-    requires counted { start.plan.rules ≡ length (R.Rules.decisions rules.now) }
-    requires kind { (start.plan.code ≡ K.Kind.CODE) × (start.plan.size ≡ K.Kind.SIZE) }
-    requires room { plan_length start.plan ≤ length out.old }
-    ensures answer { end_told result ≡ granted (plan_length start.plan) }
-    ensures after { out.new ≡ put (decisions_at (plan_fields start.plan) start.plan.rules) (flat_map K.Kind.written (R.Rules.decisions rules.now)) out.old }
-    ensures kept { (k : ℕ) → k < length (R.Rules.decisions rules.now) → (x : K) → K.Kind.reading (K.Kind.written (slice_index_or (R.Rules.decisions rules.now) k x)) ≡ slice_index_or (R.Rules.decisions rules.now) k x }
+// Writes all decisions and ends. There is no slice to go over: a list of rules is a trait.
+fn put_decisions<K: Kind, R: Rules<K>>(
+    mut stage: DecisionStage,
+    rules: &R,
+    out: &mut [u8],
+) -> Result<usize, WriteFault>
+    requires begun { stage.done ≡ 0 }
+    requires counted { stage.plan.rules ≡ length (R.decisions rules.now) }
+    requires of_code { stage.plan.code ≡ K.CODE }
+    requires of_size { stage.plan.size ≡ K.SIZE }
+    requires room { plan_length stage.plan ≤ length out.old }
+    ensures answer { result ≡ Ok (plan_length stage.plan) }
+    ensures after { out.new ≡ put (decisions_at (plan_fields stage.plan) stage.plan.rules) (flat_map K.written (R.decisions rules.now)) out.old }
+    ensures kept { (k : ℕ) → k < length (R.decisions rules.now) → (x : K) → K.reading (K.written (slice_index_or (R.decisions rules.now) k x)) ≡ slice_index_or (R.decisions rules.now) k x }
 {
-    let mut stage = start;
     for rule in 0..rules.count() {
-        let Some(decision) = rules.decision(rule) else {
-            return EndStep::Refused(stage, WriteFault::Count(rule));
-        };
-        stage = match stage.decision(out, decision) {
-            DecisionStep::Next(next) => next,
-            DecisionStep::Refused(back, fault) => return EndStep::Refused(back, fault),
-        };
+        stage = stage.decision(out, rules.decision(rule).unwrap())?;
     }
-    stage.end()
+    Ok(stage.end()?)
 }
 
 // Writes a file of these widths and rules, with the header, the widths, the rows and the decisions in their places and no other byte
@@ -81,47 +72,22 @@ pub fn write_table<K: Kind, R: Rules<K>>(
     out: &mut [u8],
 ) -> Result<usize, WriteFault>
     ensures answer { MatchResult result
-        (λ n. (table_refusal widths.now (R.Rules.rows rules.now) K.Kind.SIZE (length out.old) ≡ None)
-        × (n ≡ file_length (length widths.now) (length (R.Rules.rows rules.now)) K.Kind.SIZE))
-        (λ e. table_refusal widths.now (R.Rules.rows rules.now) K.Kind.SIZE (length out.old) ≡ Some (write_reason e)) }
-    ensures after { out.new ≡ changed (table_refusal widths.now (R.Rules.rows rules.now) K.Kind.SIZE (length out.old)) out.old
-        (put 0 (file_bytes K.Kind.written K.Kind.CODE widths.now (R.Rules.rows rules.now) (R.Rules.decisions rules.now)) out.old) }
-    ensures again { table_refusal widths.now (R.Rules.rows rules.now) K.Kind.SIZE (length out.old) ≡ None →
-        ReadsAs K.Kind.reading K.Kind.CODE K.Kind.SIZE
-        (file_bytes K.Kind.written K.Kind.CODE widths.now (R.Rules.rows rules.now) (R.Rules.decisions rules.now))
-        widths.now (R.Rules.rows rules.now) (R.Rules.decisions rules.now) }
+        (λ n. (table_refusal widths.now (R.rows rules.now) K.SIZE (length out.old) ≡ None)
+        × (n ≡ file_length (length widths.now) (length (R.rows rules.now)) K.SIZE))
+        (λ e. table_refusal widths.now (R.rows rules.now) K.SIZE (length out.old) ≡ Some (write_reason e)) }
+    ensures after { out.new ≡ changed (table_refusal widths.now (R.rows rules.now) K.SIZE (length out.old)) out.old
+        (put 0 (file_bytes K.written K.CODE widths.now (R.rows rules.now) (R.decisions rules.now)) out.old) }
+    ensures again { table_refusal widths.now (R.rows rules.now) K.SIZE (length out.old) ≡ None →
+        ReadsAs K.reading K.CODE K.SIZE
+        (file_bytes K.written K.CODE widths.now (R.rows rules.now) (R.decisions rules.now))
+        widths.now (R.rows rules.now) (R.decisions rules.now) }
 {
     let plan = Plan::test::<K>(widths, rules.count(), out.len())?;
     if let Some(field) = rows_fault(plan.widths, rules) {
         return Err(WriteFault::Ends(field));
     }
-    let stage = plan.start(widths, out);
-    let stage = match put_rows(stage, rules, out) {
-        TurnStep::Next(next) => next,
-        TurnStep::Refused(back, fault) => {
-            back.abandon();
-            return Err(fault);
-        }
-    };
-    match put_decisions(stage, rules, out) {
-        EndStep::Done(length) => Ok(length),
-        EndStep::Refused(back, fault) => {
-            back.abandon();
-            Err(fault)
-        }
-    }
-}
-
-// Writes an accepted file again: only room can lack.
-fn rewrite_file<K: Kind>(file: TableFile<'_, K>, out: &mut [u8]) -> Result<usize, WriteFault>
-    requires lawful { file_refusal file.bytes.now K.CODE K.SIZE ≡ None }
-    requires bytes { (k : ℕ) → slice_index file.bytes.now k < 256 }
-    ensures answer { MatchResult result
-        (λ n. (rewrite_refusal file.entry.bytes.now K.CODE K.SIZE (length out.old) ≡ None) × (n ≡ length file.entry.bytes.now))
-        (λ e. rewrite_refusal file.entry.bytes.now K.CODE K.SIZE (length out.old) ≡ Some (told_by WriterLayer (write_reason e))) }
-    ensures after { out.new ≡ changed (rewrite_refusal file.entry.bytes.now K.CODE K.SIZE (length out.old)) out.old (put 0 file.entry.bytes.now out.old) }
-{
-    write_table(file.widths(), &file, out)
+    let stage = put_rows(plan.start(widths, out), rules, out)?;
+    put_decisions(stage, rules, out)
 }
 
 // Reads a file and writes it again: an accepted file comes out with the same bytes, and the buffer is untouched behind them. It is
@@ -133,6 +99,5 @@ pub fn rewrite<K: Kind>(bytes: &[u8], out: &mut [u8]) -> Result<usize, RewriteFa
     ensures after { out.new ≡ changed (rewrite_refusal bytes.now K.CODE K.SIZE (length out.old)) out.old (put 0 bytes.now out.old) }
 {
     let file = TableFile::<K>::open(bytes)?;
-    let length = rewrite_file(file, out)?;
-    Ok(length)
+    Ok(write_table(file.widths(), &file, out)?)
 }

@@ -1,25 +1,18 @@
 // Writing a file in stages.
-ghost use Rattle.std.specs.Prelude.{◌≡◌, ◌+◌, ◌*◌, ◌<◌, ◌≤◌, ◌++◌, length, Some, None, MatchResult};
+ghost use Rattle.std.specs.Prelude.{◌≡◌, ◌+◌, ◌≤◌, ◌++◌, length, Some, None, MatchResult};
 ghost use Rattle.std.specs.Option.{option_map};
 ghost use Rattle.routing.specs.Fields.{widths_of};
 ghost use Rattle.fault.specs.Faults.{write_reason};
-ghost use Rattle.file.specs.Layout.{file_length, low_at, decisions_at};
-ghost use Rattle.writer.specs.Stages.{put, row_bytes, head_bytes, plan_fields, plan_length, Planned, Begun, start_refusal, row_refusal, row_told, row_next, turn_refusal, turn_told, turned, decision_refusal, decision_told, decision_next, end_refusal, end_told, judged, changed, row_at, decision_place};
+ghost use Rattle.writer.specs.Stages.{put, row_bytes, head_bytes, plan_fields, plan_layout, plan_length, Planned, Begun, room_refusal, start_refusal, ready_refusal, row_refusal, decision_refusal, early_refusal, next_stage, turned, reason_of, step_told, judged, changed, row_at, decision_place};
 
 use crate::place::{put_decision, put_front, put_row};
-use crate::stage::{DecisionStage, DecisionStep, EndStep, Plan, RowStage, RowStep, TurnStep};
+use crate::stage::{DecisionStage, Plan, Refused, RowStage, Stage};
 use decision::kind::Kind;
 use fault::writing::WriteFault;
+use file::layout::Layout;
 use routing::ends::Ends;
 use routing::widths::Widths;
-
-// The bytes of a file.
-fn length_of(d: usize, n: usize, size: usize) -> usize
-    requires { (d ≤ 8) × ((n < 65536) × (size < 65536)) }
-    ensures { result ≡ file_length d n size }
-{
-    16 + d + 8 * (d * n) + n * size
-}
+use std::marker::PhantomData;
 
 impl Plan {
     // What a start tests, for a buffer of a length.
@@ -32,44 +25,77 @@ impl Plan {
             (λ p. (start_refusal widths.now rules K.SIZE room ≡ None) × Planned widths.now rules K.CODE K.SIZE p)
             (λ e. start_refusal widths.now rules K.SIZE room ≡ Some (write_reason e)) }
     {
-        let tested = Widths::test(widths)?;
+        let widths = Widths::test(widths)?;
         if rules > 512 {
             return Err(WriteFault::Rules);
         }
-        let size = usize::from(K::SIZE);
-        let needed = length_of(widths.len(), rules, size);
+        let plan = Plan {
+            widths,
+            rules: rules as u16,
+            code: K::CODE,
+            size: K::SIZE,
+        };
+        plan.room_test(room)?;
+        Ok(plan)
+    }
+
+    pub(crate) fn layout(self) -> Layout
+        ensures { result ≡ plan_layout self }
+    {
+        Layout {
+            fields: self.widths.fields() as u8,
+            rules: self.rules,
+            size: self.size,
+        }
+    }
+
+    // Room for the whole file.
+    fn room_test(self, room: usize) -> Result<(), WriteFault>
+        ensures { reason_of result ≡ room_refusal (plan_length self) room }
+    {
+        let needed = self.layout().length();
         if room < needed {
             return Err(WriteFault::Room(needed));
         }
-        Ok(Plan {
-            widths: tested,
-            rules: rules as u16,
-            code: K::CODE,
-            size: size as u16,
-        })
+        Ok(())
     }
 
     // Writes the header and the widths.
     pub(crate) fn start(self, widths: &[u8], out: &mut [u8]) -> RowStage
-        requires { (length widths.now ≤ 8) × ((self.rules ≤ 512) × (16 + length widths.now ≤ length out.old)) }
-        ensures answer { result ≡ record { plan = self; done = 0 } }
+        requires of_widths { widths.now ≡ widths_of self.widths }
+        requires room { 16 + length widths.now ≤ length out.old }
+        ensures answer { result ≡ record { plan = self; done = 0; phase = record {} } }
         ensures after { out.new ≡ put 0 (head_bytes (length widths.now) self.rules self.code ++ widths.now) out.old }
     {
-        put_front(out, widths, self.rules, self.code);
-        RowStage {
+        put_front(out, widths, self.layout(), self.code);
+        Stage {
             plan: self,
             done: 0,
+            phase: PhantomData,
         }
     }
+}
 
-    pub(crate) fn length(self) -> usize
-        ensures { result ≡ plan_length self }
+impl<P> Stage<P> {
+    // What each step into the file tests first: room for the whole file, and a rule to come.
+    fn ready(&self, room: usize) -> Result<(), WriteFault>
+        ensures { reason_of result ≡ ready_refusal self.now room }
     {
-        length_of(
-            self.widths.fields(),
-            self.rules as usize,
-            self.size as usize,
-        )
+        self.plan.room_test(room)?;
+        if self.done >= self.plan.rules {
+            return Err(WriteFault::Count(usize::from(self.done)));
+        }
+        Ok(())
+    }
+
+    // What a turn and an end test: no rule is to come.
+    fn complete(&self) -> Result<(), WriteFault>
+        ensures { reason_of result ≡ early_refusal self.now }
+    {
+        if self.done < self.plan.rules {
+            return Err(WriteFault::Count(usize::from(self.done)));
+        }
+        Ok(())
     }
 }
 
@@ -78,10 +104,7 @@ impl RowStage {
     pub fn start_fault<K: Kind>(widths: &[u8], rules: usize, room: usize) -> Option<WriteFault>
         ensures { option_map write_reason result ≡ start_refusal widths.now rules K.SIZE room }
     {
-        match Plan::test::<K>(widths, rules, room) {
-            Ok(_) => None,
-            Err(fault) => Some(fault),
-        }
+        Plan::test::<K>(widths, rules, room).err()
     }
 
     // Starts a file of so many rules with decisions of the kind K: writes the header and the widths.
@@ -100,99 +123,95 @@ impl RowStage {
         Ok(plan.start(widths, out))
     }
 
+    // What a row tests.
+    fn row_test(&self, room: usize, ends: &[Ends; 8]) -> Result<(), WriteFault>
+        ensures { reason_of result ≡ row_refusal self.now ends.now room }
+    {
+        self.ready(room)?;
+        match self.plan.widths.ends_fault(ends) {
+            Some(field) => Err(WriteFault::Ends(field)),
+            None => Ok(()),
+        }
+    }
+
     // Writes the next row.
-    pub fn row(self, out: &mut [u8], ends: [Ends; 8]) -> RowStep
-        ensures answer { row_told result ≡ judged (row_refusal self ends (length out.old)) self (row_next self) }
+    #[tactic(auto, using(crate::proofs::Steps::row_settled))]
+    pub fn row(mut self, out: &mut [u8], ends: [Ends; 8]) -> Result<RowStage, Refused<RowStage>>
+        ensures answer { step_told result ≡ judged (row_refusal self ends (length out.old)) self (next_stage self) }
         ensures after { out.new ≡ changed (row_refusal self ends (length out.old)) out.old
             (put (row_at self) (row_bytes (plan_fields self.plan) ends) out.old) }
     {
-        let needed = self.plan.length();
-        if out.len() < needed {
-            return RowStep::Refused(self, WriteFault::Room(needed));
+        if let Err(fault) = self.row_test(out.len(), &ends) {
+            return Err(Refused { stage: self, fault });
         }
-        let done = self.done;
-        if done >= self.plan.rules {
-            return RowStep::Refused(self, WriteFault::Count(done as usize));
-        }
-        if let Some(field) = self.plan.widths.ends_fault(&ends) {
-            return RowStep::Refused(self, WriteFault::Ends(field));
-        }
-        let d = self.plan.widths.fields();
-        put_row(out, 16 + d + 8 * (done as usize * d), d, &ends);
-        let RowStage { plan, done } = self;
-        RowStep::Next(RowStage {
-            plan,
-            done: done + 1,
-        })
+        let at = self.plan.layout().row(self.done);
+        put_row(out, at, &ends[..self.plan.widths.fields()]);
+        self.done += 1;
+        Ok(self)
     }
 
     // From the rows to the decisions, once all rows stand.
-    pub fn turn(self) -> TurnStep
-        ensures { turn_told result ≡ judged (turn_refusal self) self (turned self) }
+    pub fn turn(self) -> Result<DecisionStage, Refused<RowStage>>
+        ensures { step_told result ≡ judged (early_refusal self) self (turned self) }
     {
-        let done = self.done;
-        if done < self.plan.rules {
-            return TurnStep::Refused(self, WriteFault::Count(done as usize));
+        if let Err(fault) = self.complete() {
+            return Err(Refused { stage: self, fault });
         }
-        let RowStage { plan, done: _ } = self;
-        TurnStep::Next(DecisionStage { plan, done: 0 })
-    }
-
-    // Gives the file up.
-    pub fn abandon(self)
-        ensures { Unit {0} }
-    {
-        let RowStage { plan: _, done: _ } = self;
+        let Stage {
+            plan,
+            done: _,
+            phase: _,
+        } = self;
+        Ok(Stage {
+            plan,
+            done: 0, // no decision yet
+            phase: PhantomData,
+        })
     }
 }
 
 impl DecisionStage {
+    // What a decision tests.
+    fn decision_test<K: Kind>(&self, room: usize) -> Result<(), WriteFault>
+        ensures { reason_of result ≡ decision_refusal self.now K.CODE K.SIZE room }
+    {
+        self.ready(room)?;
+        if K::CODE != self.plan.code || K::SIZE != self.plan.size {
+            return Err(WriteFault::Kind);
+        }
+        Ok(())
+    }
+
     // Writes the next decision.
-    pub fn decision<K: Kind>(self, out: &mut [u8], decision: K) -> DecisionStep
-        ensures answer { decision_told result ≡ judged (decision_refusal self K.CODE K.SIZE (length out.old)) self (decision_next self) }
+    #[tactic(auto, using(crate::proofs::Steps::decision_settled))]
+    pub fn decision<K: Kind>(
+        mut self,
+        out: &mut [u8],
+        decision: K,
+    ) -> Result<DecisionStage, Refused<DecisionStage>>
+        ensures answer { step_told result ≡ judged (decision_refusal self K.CODE K.SIZE (length out.old)) self (next_stage self) }
         ensures after { out.new ≡ changed (decision_refusal self K.CODE K.SIZE (length out.old)) out.old
             (put (decision_place self) (K.written decision) out.old) }
         ensures kept { decision_refusal self K.CODE K.SIZE (length out.old) ≡ None → K.reading (K.written decision) ≡ decision }
     {
-        let needed = self.plan.length();
-        if out.len() < needed {
-            return DecisionStep::Refused(self, WriteFault::Room(needed));
+        if let Err(fault) = self.decision_test::<K>(out.len()) {
+            return Err(Refused { stage: self, fault });
         }
-        let done = self.done;
-        if done >= self.plan.rules {
-            return DecisionStep::Refused(self, WriteFault::Count(done as usize));
-        }
-        let size = usize::from(K::SIZE);
-        if K::CODE != self.plan.code || size != self.plan.size as usize {
-            return DecisionStep::Refused(self, WriteFault::Kind);
-        }
-        let d = self.plan.widths.fields();
-        let at = 16 + d + 8 * (d * self.plan.rules as usize) + done as usize * size;
+        let at = self.plan.layout().decision(self.done);
         put_decision(out, at, decision);
-        let DecisionStage { plan, done } = self;
-        DecisionStep::Next(DecisionStage {
-            plan,
-            done: done + 1,
-        })
+        self.done += 1;
+        Ok(self)
     }
 
     // The file's length, once all decisions stand.
-    pub fn end(self) -> EndStep
-        ensures { end_told result ≡ judged (end_refusal self) self (plan_length self.plan) }
+    pub fn end(self) -> Result<usize, Refused<DecisionStage>>
+        ensures { step_told result ≡ judged (early_refusal self) self (plan_length self.plan) }
     {
-        let done = self.done;
-        if done < self.plan.rules {
-            return EndStep::Refused(self, WriteFault::Count(done as usize));
+        if let Err(fault) = self.complete() {
+            return Err(Refused { stage: self, fault });
         }
-        let length = self.plan.length();
-        let DecisionStage { plan: _, done: _ } = self;
-        EndStep::Done(length)
-    }
-
-    // Gives the file up.
-    pub fn abandon(self)
-        ensures { Unit {0} }
-    {
-        let DecisionStage { plan: _, done: _ } = self;
+        let length = self.plan.layout().length();
+        self.abandon();
+        Ok(length)
     }
 }

@@ -1,4 +1,4 @@
-use Rattle.std.proofs.Common.{◌≡◌, ◌+◌, length, refl, ap, ◌∙◌, arith}
+use Rattle.std.proofs.Common.{refl, ap, ◌∙◌, arith}
 use Rattle.writer.specs.Stages.{put, head_bytes}
 use Rattle.writer.proofs.Puts.{put_put}
 use Rattle.writer.proofs.place.put_front.Goals as goal
@@ -7,7 +7,6 @@ pub returns : goal.returns
 returns c =
     let ws = c.args.widths.now in
     let out = c.args.out.now in
-    let front = head_bytes (length ws) c.args.rules c.args.code in
     c.put_bytes-2.ensures
     ∙ ap (put 16 ws) (c.put_bytes.ensures ∙ ap (λ bs. put 0 bs out) c.head.ensures)
-    ∙ put_put 0 16 front ws out refl (omega arith)
+    ∙ put_put 0 16 (head_bytes c.args.layout.fields c.args.layout.rules c.args.code) ws out refl (omega arith)

@@ -1,6 +1,7 @@
-use Rattle.std.proofs.Common.{◌≡◌}
-use Rattle.writer.specs.Stages.{put, row_bytes}
+use Rattle.std.proofs.Common.{◌≡◌, take}
+use Rattle.std.specs.List.{flat_map}
+use Rattle.writer.specs.Stages.{put, ends_bytes}
 use Rattle.writer.proofs.place.put_row.Given as goal
 
 abbrev pub invariant-loop-k : goal.invariant-loop-k
-invariant-loop-k l = l.out ≡ put l.at (row_bytes l.k l.ends) l.initial.out
+invariant-loop-k l = l.out ≡ put l.at (flat_map ends_bytes (take l.k l.row)) l.initial.out

@@ -1,57 +1,58 @@
-use Rattle.std.proofs.Common.{◌≡◌, ℕ, ◌+◌, ◌*◌, ◌<◌, ◌≤◌, length, get_or, take, None, sym, refl, ap, ◌∙◌, arith, rules}
-use Rattle.std.proofs.lemmas.List.{take_all, get_or_default}
+use Rattle.std.proofs.Common.{◌≡◌, ◌+◌, ◌*◌, ◌<◌, ◌≤◌, length, None, Ok, sym, ap, ◌∙◌, arith, rules, below_more}
+use Rattle.std.proofs.lemmas.List.{get_or_default}
 use Rattle.routing.specs.Fields.{widths_of}
 use Rattle.routing.specs.Lawful.{ends_refusal}
-use Rattle.file.specs.Layout.{rows_at, low_at}
-use Rattle.writer.specs.Stages.{put, plan_fields, plan_length, row_bytes, turn_refusal, turned, judged, granted, refused}
-use Rattle.fault.specs.Faults.{write_reason}
+use Rattle.file.specs.Layout.{rows_at}
 use Rattle.file.specs.Contents.{blank}
-use Rattle.writer.specs.Tables.{rows_bytes}
-use Rattle.writer.proofs.Puts.{put_none}
-use Rattle.writer.proofs.Steps.{never_both, same_granted, rows_done, row_stepped, rows_more, turn_granted}
+use Rattle.writer.specs.Stages.{put, plan_fields, row_at, row_bytes, row_refusal}
+use Rattle.writer.proofs.Joins.{put_next, row_length, rows_length}
+use Rattle.writer.proofs.Rooms.{eight_times, row_room}
+use Rattle.writer.proofs.Steps.{stage_after, step_ok, step_changed, row_granted}
 use Rattle.writer.proofs.whole.put_rows.Goals as goal
 
-pub loop-rule-init : goal.loop-rule-init
-loop-rule-init g c =
-    (ap (rows_done c.args.start.plan) c.requires.begun, omega arith, sym (put_none (rows_at (plan_fields c.args.start.plan)) c.args.out.now))
-
-pub returns-in-Refused : goal.returns-in-Refused
-returns-in-Refused g c =
-    let p = c.args.start.plan in
+pub returns-in_err-stage : goal.returns-in_err-stage
+returns-in_err-stage g c =
+    let p = c.args.stage.plan in
     let k = c.loop-rule.rule in
-    let fits : ends_refusal (widths_of p.widths) c.row.result ≡ None =
-    ap (ends_refusal (widths_of p.widths)) c.row.ensures ∙ c.requires.lawful k (omega (arith, c.count-rule-end.ensures.of_rows))
+    let stands = c.loop-rule.invariant.stage in
+    let fits : ends_refusal (widths_of p.widths) c.row.result ≡ None = rw c.row.ensures (c.requires.lawful k (omega (arith, c.count-rule-end.ensures.of_rows))) in
+    let none : row_refusal (stage_after p k) c.row.result (length c.loop-rule.out) ≡ None =
+    row_granted (stage_after p k) c.row.result _ (omega (arith, c.requires.room, c.loop-rule.auto.out)) (omega (arith, c.count-rule-end.ensures.of_rows, c.requires.counted)) fits
     in
-    let room : plan_length p ≤ length c.loop-rule.out = omega (arith, c.requires.room, c.loop-rule.auto.out) in
-    let step = row_stepped p k c.loop-rule.stage c.row.result c.loop-rule.out c.row-in-loop-rule.new.out (refused c.in-Refused.back (write_reason c.in-Refused.fault)) c.loop-rule.invariant.0 room (omega (arith, c.count-rule-end.ensures.of_rows, c.requires.counted)) fits c.in-Refused.ensures.answer c.in-Refused.ensures.after in
-    never_both step.0
+    let answer = c.row-in-loop-rule.ensures.answer in
+    let granted : c.row-in-loop-rule.result ≡ Ok (stage_after p (k + 1)) = step_ok _ none _ _ _ (rw stands at answer) in
+    let is = c.in_err-stage.was in
+    absurd cc
 
 pub loop-rule-preserved : goal.loop-rule-preserved
 loop-rule-preserved g c =
-    let p = c.args.start.plan in
+    let p = c.args.stage.plan in
     let d = plan_fields p in
     let rows = g.R.Rules.rows c.args.rules.now in
     let k = c.loop-rule.rule in
     let es = c.row.result in
+    let stands = c.loop-rule.invariant.stage in
     let below : k < length rows = omega (arith, c.count-rule-end.ensures.of_rows) in
-    let fits : ends_refusal (widths_of p.widths) es ≡ None = ap (ends_refusal (widths_of p.widths)) c.row.ensures ∙ c.requires.lawful k below in
-    let room : plan_length p ≤ length c.loop-rule.out = omega (arith, c.requires.room, c.loop-rule.auto.out) in
-    let step = row_stepped p k c.loop-rule.stage es c.loop-rule.out c.row-in-loop-rule.new.out (granted c.in-Next.next) c.loop-rule.invariant.0 room (omega (arith, c.requires.counted)) fits c.in-Next.ensures.answer c.in-Next.ensures.after in
+    let few : d ≤ 8 = p.widths.tested.1 in
     let long : length es ≡ 8 = search rules in
-    let more = rows_more p rows es k c.args.out.now (c.row.ensures ∙ get_or_default rows k blank es below) below long (omega (arith, p.widths.tested.1)) c.requires.counted c.requires.room c.loop-rule.invariant.1 in
-    (same_granted step.0, more.0, step.1 ∙ ap (put (low_at d (k * d)) (row_bytes d es)) c.loop-rule.invariant.2 ∙ more.1)
-
-pub returns : goal.returns
-returns g c =
-    let p = c.args.start.plan in
-    let d = plan_fields p in
-    let rows = g.R.Rules.rows c.args.rules.now in
-    let k = c.loop-rule.rule in
-    let all : length rows ≤ k = omega (arith, c.count-rule-end.ensures.of_rows, c.loop-rule-test.false) in
+    let fits : ends_refusal (widths_of p.widths) es ≡ None = rw c.row.ensures (c.requires.lawful k below) in
+    let none : row_refusal (stage_after p k) es (length c.loop-rule.out) ≡ None =
+    row_granted (stage_after p k) es _ (omega (arith, c.requires.room, c.loop-rule.auto.out)) (omega (arith, c.requires.counted)) fits
+    in
+    let answer = c.row-in-loop-rule.ensures.answer in
+    let after = c.row-in-loop-rule.ensures.after in
+    let granted : c.row-in-loop-rule.result ≡ Ok (stage_after p (k + 1)) = step_ok _ none _ _ _ (rw stands at answer) in
+    let is = c.in_ok-stage.was in
+    let to = row_at (stage_after p k) in
+    let one : c.row-in-loop-rule.new.out ≡ put to (row_bytes d es) c.loop-rule.out = step_changed _ none _ _ _ (rw stands at after) in
+    let room : to + length (row_bytes d es) ≤ length c.args.out.now =
+    omega (arith, row_length d es (omega arith), row_room d p.rules p.size k (length c.args.out.now) (omega (arith, c.requires.counted)) c.requires.room)
+    in
     record {
-      answer =
-          c.turn.ensures
-          ∙ ap (λ s. judged (turn_refusal s) s (turned s)) c.loop-rule.invariant.0
-          ∙ ap (λ r. judged r (rows_done p k) (turned c.args.start)) (turn_granted p k (omega (arith, c.requires.counted)));
-      after = c.loop-rule.invariant.2 ∙ ap (λ l. put (rows_at d) (rows_bytes d l) c.args.out.now) (take_all k rows all);
+      stage = cc;
+      bytes =
+          one
+          ∙ ap (put to (row_bytes d es)) c.loop-rule.invariant.bytes
+          ∙ put_next (row_bytes d) rows (8 * d) k es (rows_at d) to c.args.out.now (c.row.ensures ∙ get_or_default rows k blank es below) below (rows_length d rows k few (omega arith) c.loop-rule.invariant.eights) (omega (arith, eight_times k d)) room;
+      eights = below_more _ _ c.loop-rule.invariant.eights (ap length (sym c.row.ensures) ∙ long);
     }
