@@ -8,7 +8,8 @@ use Rattle.shape.specs.Meaning.{Upward, Sound, Proper}
 use Rattle.tree.specs.Memory.{space}
 use Rattle.tree.specs.Links.{Records, shape, Changed, Fits, Became}
 use Rattle.tree.specs.Reads.{weight, sat, Weighs}
-use Rattle.tree.specs.Means.{Meant, room_of, need_of, lacking}
+use Rattle.tree.specs.Meant.{Meant}
+use Rattle.tree.specs.Means.{room_in, room_of, need_of, lacking}
 use Rattle.tree.specs.declared.all_match.Tree.{Tree}
 use Rattle.routing.specs.Space.{branches, marks}
 use Rattle.tree.specs.declared.space.Space.{Space}
@@ -57,39 +58,39 @@ enough x T need room n r =
 
 -- The next rule, by its first intervals es and its number n.
 module _
-    {x : Tree} {T : List (List Ends)} (m : Meant x T) (e : List Ends) (ok : Proper x.fields e) (es : List Ends) (n : ℕ)
-    (first : es ≡ take x.fields e) (next : n ≡ length T + 1) where
+    {s : Store} {first d : ℕ} {T : List (List Ends)} (m : Meant s first d T) (e : List Ends) (ok : Proper d e) (es : List Ends) (n : ℕ)
+    (front : es ≡ take d e) (next : n ≡ length T + 1) where
   -- the rules with it are all proper
-  all_proper : AllByRecursion (Proper x.fields) (T ++ e ∷ [])
-  all_proper = All-push (Proper x.fields) T e m.proper ok
+  all_proper : AllByRecursion (Proper d) (T ++ e ∷ [])
+  all_proper = All-push (Proper d) T e m.proper ok
 
   -- the tree with the rule is that of one rule more
-  grown_is : insert es n (shape m.records.0) ≡ grown x.fields (T ++ e ∷ [])
-  grown_is = ap₂ (λ fs i. insert fs i (shape m.records.0)) first next ∙ ap (insert (take x.fields e) (length T + 1)) m.records.3 ∙ sym (grown_more_lem x.fields T e)
+  grown_is : insert es n (shape m.records.0) ≡ grown d (T ++ e ∷ [])
+  grown_is = ap₂ (λ fs i. insert fs i (shape m.records.0)) front next ∙ ap (insert (take d e) (length T + 1)) m.records.3 ∙ sym (grown_more_lem d T e)
 
   -- the shape with the rule takes the space that the rules need
   space_is :
-      (branches_of (insert es n (shape m.records.0)) ≡ branches x.fields 0 (T ++ e ∷ []))
-      × (marks_of (insert es n (shape m.records.0)) ≡ marks x.fields 0 (T ++ e ∷ []))
+      (branches_of (insert es n (shape m.records.0)) ≡ branches d 0 (T ++ e ∷ []))
+      × (marks_of (insert es n (shape m.records.0)) ≡ marks d 0 (T ++ e ∷ []))
   space_is =
-      let z = space_exact x.fields (T ++ e ∷ []) all_proper in
+      let z = space_exact d (T ++ e ∷ []) all_proper in
       (ap branches_of grown_is ∙ z.0, ap marks_of grown_is ∙ z.1)
 
   -- the count is the space that the rules need with it
-  pub need_is : (k : Space) → Weighs k (λ p q. weight p q (insert es n (shape m.records.0))) → k ≡ need_of x.fields (T ++ e ∷ [])
+  pub need_is : (k : Space) → Weighs k (λ p q. weight p q (insert es n (shape m.records.0))) → k ≡ need_of d (T ++ e ∷ [])
   need_is k W =
       let sh = insert es n (shape m.records.0) in
-      let b : k.branches ≡ sat (branches x.fields 0 (T ++ e ∷ [])) = W.branches ∙ ap sat (sym (branches_weight sh) ∙ space_is.0) in
-      let c : k.marks ≡ sat (marks x.fields 0 (T ++ e ∷ [])) = W.marks ∙ ap sat (sym (marks_weight sh) ∙ space_is.1) in
+      let b : k.branches ≡ sat (branches d 0 (T ++ e ∷ [])) = W.branches ∙ ap sat (sym (branches_weight sh) ∙ space_is.0) in
+      let c : k.marks ≡ sat (marks d 0 (T ++ e ∷ [])) = W.marks ∙ ap sat (sym (marks_weight sh) ∙ space_is.1) in
       λ i. record { branches = b i; marks = c i }
 
   -- where nothing lacks, there is room for the rule
   pub rule_fits :
-      branches x.fields 0 (T ++ e ∷ []) ≤ (room_of x).branches → marks x.fields 0 (T ++ e ∷ []) ≤ (room_of x).marks
-      → Fits x.store x.fields x.root m.records.0 (insert es n (shape m.records.0))
+      branches d 0 (T ++ e ∷ []) ≤ (room_in s).branches → marks d 0 (T ++ e ∷ []) ≤ (room_in s).marks
+      → Fits s d first m.records.0 (insert es n (shape m.records.0))
   rule_fits l h =
       let z = sized m in
-      let r = space_room x.store in
+      let r = space_room s in
       let y = space_is in
       record {
         stands = m.records.1;
@@ -101,9 +102,8 @@ module _
 
   -- and afterwards the records mean the rules with it
   pub meant_more :
-      (s : Store) (r : ℕ) (u : Records) → Became x.store s x.fields m.records.0 (insert es n (shape m.records.0)) r u
-      → Meant (record { store = s; root = r; fields = x.fields }) (T ++ e ∷ [])
-  meant_more s r u B =
+      (s' : Store) (r : ℕ) (u : Records) → Became s s' d m.records.0 (insert es n (shape m.records.0)) r u → Meant s' r d (T ++ e ∷ [])
+  meant_more s' r u B =
       let z = sized m in
       let y = space_is in
       let C = B.change in
@@ -112,14 +112,14 @@ module _
         proper = all_proper;
         branches = omega (arith, C.branches, z.0, y.0, ap branches_of B.same);
         marks = omega (arith, C.marks, z.1, y.1, ap marks_of B.same);
-        tidy = order_kept x.fields (T ++ e ∷ []) all_proper;
+        tidy = order_kept d (T ++ e ∷ []) all_proper;
         records = (u, record { holds = C.holds; own = λ k. omega (arith, m.records.1.own k, C.grown k) }, B.from, B.same ∙ grown_is);
       }
 
 -- the room stays
-pub room_kept : (x : Tree) (s : Store) (r : ℕ) (t u : Records) → Changed x.store s x.fields t u → room_of (record { store = s; root = r; fields = x.fields }) ≡ room_of x
+pub room_kept : (s s' : Store) (d : ℕ) (t u : Records) → Changed s s' d t u → room_in s' ≡ room_in s
 unfolding space
-room_kept x s r t u C =
-    let b : min (length s.branches.now) 65536 ≡ min (length x.store.branches.now) 65536 = omega (arith, C.all) in
-    let c : min (length s.marks.now) 1048576 ≡ min (length x.store.marks.now) 1048576 = omega (arith, C.all_marks) in
+room_kept s s' d t u C =
+    let b : min (length s'.branches.now) 65536 ≡ min (length s.branches.now) 65536 = omega (arith, C.all) in
+    let c : min (length s'.marks.now) 1048576 ≡ min (length s.marks.now) 1048576 = omega (arith, C.all_marks) in
     λ i. record { branches = b i; marks = c i }

@@ -3,5 +3,6 @@ pub mod Links
 pub mod Reads
 pub mod Lookups
 pub mod Tours
+pub mod Meant
 pub mod Means
 pub mod Calls

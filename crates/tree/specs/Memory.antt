@@ -1,6 +1,6 @@
 -- The memory of a tree: what stands at each place, and which places are taken. A branch's place is its index, and a mark's its index
 -- and 2 ^ 32 more, so that one number names either. Assumes nothing.
-use Rattle.std.specs.Prelude.{◌≡◌, ℕ, ◌+◌, ◌-◌, min, cond, List, length, ◌==◌, nat_lt, slice_index_or}
+use Rattle.std.specs.Prelude.{◌≡◌, ℕ, ◌+◌, ◌-◌, min, cond, Some, None, Option, List, length, ◌==◌, nat_lt, slice_index_or}
 use Rattle.std.proofs.Math.Nat.{ℕ_set}
 use Rattle.shape.specs.Shapes.{Label, LabelSet, piece, rule, branch_of, mark_of}
 use Rattle.tree.specs.declared.records.Branch.{Branch}
@@ -64,6 +64,10 @@ look_in bs ms k =
 
 abbrev pub look : Store → ℕ → Rec
 look s k = look_in s.branches.now s.marks.now k
+
+-- a link as an option
+abbrev pub link_of : ℕ → Option ℕ
+link_of n = cond (n == 0xffff_ffff) None (Some n)
 
 -- n branches and m marks more are taken
 pub record Room (s s' : Store) (n m : ℕ) : Type 0 where
