@@ -8,6 +8,7 @@ use crate::walk::Walk;
 use routing::ends::Ends;
 use routing::rule::Message;
 use routing::widths::Widths;
+use thiserror::Error;
 
 // Never more are used, however much memory there is.
 const MOST_BRANCHES: usize = 65536;
@@ -24,9 +25,11 @@ pub struct Tree<'a> {
 }
 
 // What a rule more would need, and there is too little of.
-#[derive(Clone, Copy)]
+#[derive(Clone, Copy, Debug, PartialEq, Eq, Hash, Error)]
 pub enum Lack {
+    #[error("branches")]
     Branches,
+    #[error("marks")]
     Marks,
 }
 

@@ -13,7 +13,7 @@ use routing::widths::Widths;
 use std::alloc::AllocError;
 use std::io;
 use tree::all_match::{Lack, Tree};
-use tree::records::{Branch, Mark, NONE};
+use tree::records::{Branch, Mark};
 
 // Whatever the memory holds, the tree begins empty.
 const NO_BRANCH: Branch = Branch {
@@ -88,16 +88,14 @@ fn low_corner(ends: &[Ends; 8], fields: usize) -> Message {
 }
 
 // The numbers of the rules that match a message.
-fn print_matching(rt: &HostRuntime, tree: &Tree<'_>, message: Message) -> io::Result<()>
-    requires { (T : List (List Pair)) × Means tree.now T }
-{
+fn print_matching(rt: &HostRuntime, tree: &Tree<'_>, message: Message) -> io::Result<()> {
     let mut at = tree.look_up(message);
     let mut first = true;
     for _ in 0..512 {
-        if at == NONE {
+        let Some(link) = at else {
             break;
-        }
-        let mark = tree.mark(at);
+        };
+        let mark = tree.mark(link);
         let number = mark.rule;
         if first {
             print!(rt; " {number}")?;
@@ -105,7 +103,7 @@ fn print_matching(rt: &HostRuntime, tree: &Tree<'_>, message: Message) -> io::Re
             print!(rt; ", {number}")?;
         }
         first = false;
-        at = mark.next;
+        at = mark.next();
     }
     println!(rt; "")
 }
@@ -116,15 +114,11 @@ fn print_tree<K: Kind>(
     tree: &Tree<'_>,
     file: TableFile<'_, K>,
     grown: Grown,
-) -> io::Result<()>
-    requires { (T : List (List Pair)) × Means tree.now T }
-{
+) -> io::Result<()> {
     let rules = grown.rules;
     let next = rules.saturating_add(1);
-    match grown.lack {
-        Some(Lack::Branches) => println!(rt; "tree: rule {next} lacks branches")?,
-        Some(Lack::Marks) => println!(rt; "tree: rule {next} lacks marks")?,
-        None => {}
+    if let Some(lack) = grown.lack {
+        println!(rt; "tree: rule {next} lacks {lack}")?;
     }
     let used = tree.used();
     let branches = used.branches;

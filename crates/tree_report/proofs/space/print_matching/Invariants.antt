@@ -1,6 +1,6 @@
-use Rattle.std.proofs.Common.{ℕ, List}
-use Rattle.tree.specs.Tours.{Lists}
+use Rattle.std.proofs.Common.{IfSome}
+use Rattle.tree.specs.Calls.{Marked}
 use Rattle.tree_report.proofs.space.print_matching.Given as goal
 
 abbrev pub invariant-loop : goal.invariant-loop
-invariant-loop l = (ns : List ℕ) × Lists l.tree.store l.at ns
+invariant-loop l = IfSome l.at (Marked l.tree)
