@@ -39,7 +39,7 @@ module _ (x : Tree) (T : List (List Ends)) where
   lacks_marks l h = grind (arith, nat_tests)
 
 -- the limits are within what the records can index
-space_room : (s : Store) → (min (length s.branches.now) 65536 ≤ space (length s.branches.now)) × (min (length s.marks.now) 1048576 ≤ space (length s.marks.now))
+space_room : (s : Store) → (min (length s.branches.records.now) 65536 ≤ space (length s.branches.records.now)) × (min (length s.marks.records.now) 1048576 ≤ space (length s.marks.records.now))
 unfolding space
 space_room s = (omega arith, omega arith)
 
@@ -120,6 +120,6 @@ module _
 pub room_kept : (x : Tree) (s : Store) (r : ℕ) (t u : Records) → Changed x.store s x.fields t u → room_of (record { store = s; root = r; fields = x.fields }) ≡ room_of x
 unfolding space
 room_kept x s r t u C =
-    let b : min (length s.branches.now) 65536 ≡ min (length x.store.branches.now) 65536 = omega (arith, C.all) in
-    let c : min (length s.marks.now) 1048576 ≡ min (length x.store.marks.now) 1048576 = omega (arith, C.all_marks) in
+    let b : min (length s.branches.records.now) 65536 ≡ min (length x.store.branches.records.now) 65536 = omega (arith, C.all) in
+    let c : min (length s.marks.records.now) 1048576 ≡ min (length x.store.marks.records.now) 1048576 = omega (arith, C.all_marks) in
     λ i. record { branches = b i; marks = c i }

@@ -70,7 +70,7 @@ proper_prop d r a b =
     λ i. (le_prop a.0 b.0 i, all_prop Sound (λ e x y j. (le_prop x.0 y.0 j, le_prop x.1 y.1 j)) (take d r) a.1 b.1 i)
 
 -- the size of the tree of some rules
-pub sized : {x : Tree} {T : List (List Ends)} (m : Meant x T) → (branches_of (shape m.records.0) ≡ x.store.used) × (marks_of (shape m.records.0) ≡ x.store.marked)
+pub sized : {x : Tree} {T : List (List Ends)} (m : Meant x T) → (branches_of (shape m.records.0) ≡ x.store.branches.taken) × (marks_of (shape m.records.0) ≡ x.store.marks.taken)
 sized {x} {T} m =
     let e = space_exact x.fields T m.proper in
     (ap branches_of m.records.3 ∙ e.0 ∙ sym m.branches, ap marks_of m.records.3 ∙ e.1 ∙ sym m.marks)
@@ -80,7 +80,7 @@ pub recovered : {x : Tree} {T : List (List Ends)} → Means x T → Meant x T
 recovered {x} {T} e =
     let s = x.store in
     let d = x.fields in
-    let n = s.used + s.marked in
+    let n = s.branches.taken + s.marks.taken in
     let u : Records = read_at n s d x.root in
     let ok : AllByRecursion (Proper d) T = ∥∥₁_elim e (all_prop (Proper d) (proper_prop d) T) (λ m. m.proper) in
     let one-tree : IsProp (Stands s d u × (root u ≡ x.root) × (shape u ≡ grown d T)) =

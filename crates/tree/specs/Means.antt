@@ -18,8 +18,8 @@ use Rattle.tree.specs.declared.space.Space.{Space}
 pub record Meant (x : Tree) (T : List (List Ends)) : Type 0 where
   pub fields : (1 ≤ x.fields) × (x.fields ≤ 8)
   pub proper : AllByRecursion (Proper x.fields) T
-  pub branches : x.store.used ≡ branches x.fields 0 T
-  pub marks : x.store.marked ≡ marks x.fields 0 T
+  pub branches : x.store.branches.taken ≡ branches x.fields 0 T
+  pub marks : x.store.marks.taken ≡ marks x.fields 0 T
   pub tidy : Tidy x.fields 0 (grown x.fields T)
   pub records : (t : Records) × Stands x.store x.fields t × (root t ≡ x.root) × (shape t ≡ grown x.fields T)
 
@@ -29,7 +29,7 @@ Means x T = ∥ Meant x T ∥₁
 -- the branches and the marks that a tree may use
 abbrev pub room_of : Tree → Space
 room_of x =
-    record { branches = min (length x.store.branches.now) 65536; marks = min (length x.store.marks.now) 1048576 }
+    record { branches = min (length x.store.branches.records.now) 65536; marks = min (length x.store.marks.records.now) 1048576 }
 
 -- the space that rules need, as far as 64 bits go
 abbrev pub need_of : ℕ → List (List Ends) → Space

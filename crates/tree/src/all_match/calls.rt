@@ -24,7 +24,7 @@ impl<'a> Tree<'a> {
     pub fn new(branches: &'a mut [Branch], marks: &'a mut [Mark], widths: Widths) -> Tree<'a>
         ensures means { Means result [] }
         ensures fields { result.fields ≡ length (widths_of widths) }
-        ensures memory { (result.store.branches.now ≡ branches.old) × (result.store.marks.now ≡ marks.old) }
+        ensures memory { (result.store.branches.records.now ≡ branches.old) × (result.store.marks.records.now ≡ marks.old) }
     {
         empty(branches, marks, widths.fields())
     }
@@ -34,8 +34,8 @@ impl<'a> Tree<'a> {
         ensures { result ≡ room_of self.now }
     {
         Space {
-            branches: self.store.branches.len().min(MOST_BRANCHES) as u64,
-            marks: self.store.marks.len().min(MOST_MARKS) as u64,
+            branches: self.store.branches.records.len().min(MOST_BRANCHES) as u64,
+            marks: self.store.marks.records.len().min(MOST_MARKS) as u64,
         }
     }
 

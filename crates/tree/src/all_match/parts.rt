@@ -5,6 +5,7 @@ ghost use Rattle.tree.specs.Means.{Means};
 ghost use Rattle.tree.specs.Calls.{SomeRules, Next, Uses, NeedsWith, Appends, LooksUp, Marked, Reads, Begins, StandsAt, GoesOn};
 
 use super::{Lack, Tree};
+use crate::pool::Pool;
 use crate::records::{Branch, Mark, NONE, Store};
 use crate::space::Space;
 use crate::walk::Walk;
@@ -20,14 +21,18 @@ pub(crate) fn empty<'a>(
     requires { (1 ≤ fields) × (fields ≤ 8) }
     ensures means { Means result [] }
     ensures fields { result.fields ≡ fields }
-    ensures memory { (result.store.branches.now ≡ branches.old) × (result.store.marks.now ≡ marks.old) }
+    ensures memory { (result.store.branches.records.now ≡ branches.old) × (result.store.marks.records.now ≡ marks.old) }
 {
     Tree {
         store: Store {
-            branches,
-            marks,
-            used: 0,
-            marked: 0,
+            branches: Pool {
+                records: branches,
+                taken: 0,
+            },
+            marks: Pool {
+                records: marks,
+                taken: 0,
+            },
         },
         root: NONE,
         fields,
@@ -48,8 +53,8 @@ impl Tree<'_> {
         ensures { Uses self.now result }
     {
         Space {
-            branches: self.store.used as u64,
-            marks: self.store.marked as u64,
+            branches: self.store.branches.taken as u64,
+            marks: self.store.marks.taken as u64,
         }
     }
 
@@ -95,7 +100,7 @@ impl Tree<'_> {
         requires { Marked self.now at }
         ensures { Reads self.now at result }
     {
-        self.store.mark(at)
+        self.store.marks.get(at)
     }
 
     pub(crate) fn begin(&self, within: &[Ends; 8]) -> Walk
