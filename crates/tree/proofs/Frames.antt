@@ -1,11 +1,13 @@
 -- Links in a memory that changes elsewhere. Assumes nothing.
-use Rattle.std.proofs.Common.{◌≡◌, ℕ, zero, suc, ◌+◌, ◌-◌, ◌<◌, ◌≤◌, sym, refl, ap, ◌∙◌, subst, one-add, arith}
+use Rattle.std.proofs.Common.{◌≡◌, ℕ, zero, suc, ◌+◌, ◌-◌, ◌<◌, ◌≤◌, length, slice_get, Some, sym, refl, ap, ◌∙◌, subst, one-add, arith}
 use Rattle.std.proofs.lemmas.Bool.{cond-false, ne_eqb}
 use Rattle.shape.specs.Shapes.{Label, piece, rule, Shape, part, branches_of, marks_of, siblings, bare}
 use Rattle.tree.specs.Memory.{rec, next_of, live, look, Pushed}
 use Rattle.tree.specs.Links.{Records, none, item, shape, root, place, Holds, count, Stands, Changed, chain}
 use Rattle.tree.specs.declared.records.Store.{Store}
-use Rattle.tree.proofs.Places.{one_self, live_most}
+use Rattle.tree.specs.declared.records.Branch.{Branch}
+use Rattle.tree.specs.declared.records.Mark.{Mark}
+use Rattle.tree.proofs.Places.{one_self, live_most, place_mark, place_branch, inside_branch, inside_mark, at_branch, at_mark}
 
 -- THE FRAME: a tree stands on where the memory keeps its places.
 pub kept : (s s' : Store) (d : ℕ) (t : Records) → Holds s d t → ((k : ℕ) → 0 < count d t k → look s' k ≡ look s k) → Holds s' d t
@@ -55,6 +57,26 @@ pub taken : (s : Store) (d at : ℕ) (t : Records) → Stands s d t → root t �
 taken s d at none S e ne = absurd (ne (sym e))
 taken s d at (item a l below rest) S e ne =
     subst (λ i. 0 < live s (place d i)) e (omega (arith, one_self (place d a), S.own (place d a)))
+
+-- A node's first record: a branch lies in its slice, and says what was read.
+module _ (s : Store) (d at : ℕ) (t : Records) (from : root t ≡ at) (ne : at ≡ 0xffff_ffff → ⊥) where
+  -- its index is below the link to nothing
+  low_index : Holds s d t → at < 0xffff_ffff
+  low_index h = let O = opened at t from ne in (subst (Holds s d) O.is h).0
+
+  pub branch_inside : Stands s d t → (d ≡ 0 → ⊥) → at < length s.branches.records.now
+  branch_inside S pos =
+      inside_branch s at (omega (arith, low_index S.holds)) (rw (place_branch d at pos) at (taken s d at t S from ne))
+
+  pub found_branch : {b : Branch} → Holds s d t → (d ≡ 0 → ⊥) → slice_get s.branches.records.now at ≡ Some b → Found at (piece b.low b.high) b.below b.next t
+  found_branch {b} h pos read = found s d at _ _ _ t h from ne (at_branch s d at b pos (omega (arith, low_index h)) read)
+
+  -- a mark too
+  pub mark_inside : Stands s d t → d ≡ 0 → at < length s.marks.records.now
+  mark_inside S z = inside_mark s at (rw (place_mark d at z) at (taken s d at t S from ne))
+
+  pub found_mark : {m : Mark} → Holds s d t → d ≡ 0 → slice_get s.marks.records.now at ≡ Some m → Found at (rule m.rule) 0xffff_ffff m.next t
+  found_mark {m} h z read = found s d at _ _ _ t h from ne (at_mark s d at m z read)
 
 -- how far a loop over a node has to go
 pub chain_is : (s : Store) (d : ℕ) (t : Records) (n : ℕ) → Holds s d t → siblings (shape t) ≤ n → chain n s d (root t) ≡ siblings (shape t)

@@ -40,7 +40,7 @@ module _ (x : Tree) (T : List (List Ends)) where
   lacks_marks l h = grind (arith, nat_tests)
 
 -- the limits are within what the records can index
-space_room : (s : Store) → (min (length s.branches.now) 65536 ≤ space (length s.branches.now)) × (min (length s.marks.now) 1048576 ≤ space (length s.marks.now))
+space_room : (s : Store) → (min (length s.branches.records.now) 65536 ≤ space (length s.branches.records.now)) × (min (length s.marks.records.now) 1048576 ≤ space (length s.marks.records.now))
 unfolding space
 space_room s = (omega arith, omega arith)
 
@@ -120,6 +120,6 @@ module _
 pub room_kept : (s s' : Store) (d : ℕ) (t u : Records) → Changed s s' d t u → room_in s' ≡ room_in s
 unfolding space
 room_kept s s' d t u C =
-    let b : min (length s'.branches.now) 65536 ≡ min (length s.branches.now) 65536 = omega (arith, C.all) in
-    let c : min (length s'.marks.now) 1048576 ≡ min (length s.marks.now) 1048576 = omega (arith, C.all_marks) in
+    let b : min (length s'.branches.records.now) 65536 ≡ min (length s.branches.records.now) 65536 = omega (arith, C.all) in
+    let c : min (length s'.marks.records.now) 1048576 ≡ min (length s.marks.records.now) 1048576 = omega (arith, C.all_marks) in
     λ i. record { branches = b i; marks = c i }

@@ -69,20 +69,20 @@ proper_prop d r a b =
     λ i. (le_prop a.0 b.0 i, all_prop Sound (λ e x y j. (le_prop x.0 y.0 j, le_prop x.1 y.1 j)) (take d r) a.1 b.1 i)
 
 -- the size of the tree of some rules
-pub sized : {s : Store} {first d : ℕ} {T : List (List Ends)} (m : Meant s first d T) → (branches_of (shape m.records.0) ≡ s.used) × (marks_of (shape m.records.0) ≡ s.marked)
+pub sized : {s : Store} {first d : ℕ} {T : List (List Ends)} (m : Meant s first d T) → (branches_of (shape m.records.0) ≡ s.branches.taken) × (marks_of (shape m.records.0) ≡ s.marks.taken)
 sized {s} {first} {d} {T} m =
     let e = space_exact d T m.proper in
     (ap branches_of m.records.3 ∙ e.0 ∙ sym m.branches, ap marks_of m.records.3 ∙ e.1 ∙ sym m.marks)
 
 -- what is read at the root
 abbrev read : Store → (first d : ℕ) → Records
-read s first d = read_at (s.used + s.marked) s d first
+read s first d = read_at (s.branches.taken + s.marks.taken) s d first
 
 -- it is the tree of the rules
 read_tree : {s : Store} {first d : ℕ} {T : List (List Ends)} (m : Meant s first d T) → m.records.0 ≡ read s first d
 read_tree {s} {first} {d} m =
     let z = sized m in
-    let n = s.used + s.marked in
+    let n = s.branches.taken + s.marks.taken in
     sym (read_is n s d m.records.0 m.records.1.holds (omega (arith, z.0, z.1))) ∙ ap (read_at n s d) m.records.2
 
 -- THE READING: the tree is read off the records, so what they mean comes out of the truncation

@@ -1,3 +1,4 @@
+pub mod Pools
 pub mod Memory
 pub mod Links
 pub mod Reads

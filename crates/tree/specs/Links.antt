@@ -46,18 +46,18 @@ pub record Changed (s s' : Store) (d : ℕ) (t t' : Records) : Type 0 where
   pub grown : (k : ℕ) → count d t' k + live s k ≡ count d t k + live s' k
   pub keeps : (k : ℕ) → count d t k < live s k → look s' k ≡ look s k
   pub spare : (k : ℕ) → live s' k ≡ 0 → (live s k ≡ 0) × (look s' k ≡ look s k)
-  pub branches : s'.used + branches_of (shape t) ≡ s.used + branches_of (shape t')
-  pub marks : s'.marked + marks_of (shape t) ≡ s.marked + marks_of (shape t')
-  pub all : space (length s'.branches.now) ≡ space (length s.branches.now)
-  pub all_marks : space (length s'.marks.now) ≡ space (length s.marks.now)
+  pub branches : s'.branches.taken + branches_of (shape t) ≡ s.branches.taken + branches_of (shape t')
+  pub marks : s'.marks.taken + marks_of (shape t) ≡ s.marks.taken + marks_of (shape t')
+  pub all : space (length s'.branches.records.now) ≡ space (length s.branches.records.now)
+  pub all_marks : space (length s'.marks.records.now) ≡ space (length s.marks.records.now)
 
 -- At `first` there is a tree with d fields left, and there is room for as much again.
 pub record Copiable (s : Store) (d first : ℕ) (t : Records) : Type 0 where
   pub stands : Stands s d t
   pub from : root t ≡ first
-  pub steps : branches_of (shape t) + marks_of (shape t) ≤ s.used + s.marked
-  pub room : s.used + branches_of (shape t) ≤ space (length s.branches.now)
-  pub room_marks : s.marked + marks_of (shape t) ≤ space (length s.marks.now)
+  pub steps : branches_of (shape t) + marks_of (shape t) ≤ s.branches.taken + s.marks.taken
+  pub room : s.branches.taken + branches_of (shape t) ≤ space (length s.branches.records.now)
+  pub room_marks : s.marks.taken + marks_of (shape t) ≤ space (length s.marks.records.now)
 
 -- a new tree u with the shape of t
 pub record Copied (s s' : Store) (d : ℕ) (t : Records) (r : ℕ) (u : Records) : Type 0 where
@@ -74,9 +74,9 @@ pub record CopiedOne (s s' : Store) (d : ℕ) (l : Label) (below : Records) (r :
 pub record Fits (s : Store) (d first : ℕ) (t : Records) (sh : Shape) : Type 0 where
   pub stands : Stands s d t
   pub from : root t ≡ first
-  pub steps : branches_of (shape t) + marks_of (shape t) ≤ s.used + s.marked
-  pub room : s.used + branches_of sh ≤ space (length s.branches.now) + branches_of (shape t)
-  pub room_marks : s.marked + marks_of sh ≤ space (length s.marks.now) + marks_of (shape t)
+  pub steps : branches_of (shape t) + marks_of (shape t) ≤ s.branches.taken + s.marks.taken
+  pub room : s.branches.taken + branches_of sh ≤ space (length s.branches.records.now) + branches_of (shape t)
+  pub room_marks : s.marks.taken + marks_of sh ≤ space (length s.marks.records.now) + marks_of (shape t)
 
 -- From s to s', t became t', of the shape sh, which starts at r; nothing else changed.
 pub record Became (s s' : Store) (d : ℕ) (t : Records) (sh : Shape) (r : ℕ) (t' : Records) : Type 0 where

@@ -17,7 +17,7 @@ Means x T = ∥ Meant x.store x.root x.fields T ∥₁
 
 -- the branches and the marks that a tree may use
 abbrev pub room_in : Store → Space
-room_in s = record { branches = min (length s.branches.now) 65536; marks = min (length s.marks.now) 1048576 }
+room_in s = record { branches = min (length s.branches.records.now) 65536; marks = min (length s.marks.records.now) 1048576 }
 
 abbrev pub room_of : Tree → Space
 room_of x = room_in x.store

@@ -13,8 +13,8 @@ use Rattle.tree.specs.declared.records.Store.{Store}
 pub record Meant (s : Store) (first d : ℕ) (T : List (List Ends)) : Type 0 where
   pub fields : (1 ≤ d) × (d ≤ 8)
   pub proper : AllByRecursion (Proper d) T
-  pub branches : s.used ≡ branches d 0 T
-  pub marks : s.marked ≡ marks d 0 T
+  pub branches : s.branches.taken ≡ branches d 0 T
+  pub marks : s.marks.taken ≡ marks d 0 T
   pub tidy : Tidy d 0 (grown d T)
   pub records : (t : Records) × Stands s d t × (root t ≡ first) × (shape t ≡ grown d T)
 

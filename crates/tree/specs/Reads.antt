@@ -15,7 +15,7 @@ Ordered lo (part (rule i) below rest) = (lo ≤ i) × Ordered 0 below × Ordered
 pub record Stood (s : Store) (d first : ℕ) (t : Records) : Type 0 where
   pub stands : Stands s d t
   pub from : root t ≡ first
-  pub steps : branches_of (shape t) + marks_of (shape t) ≤ s.used + s.marked
+  pub steps : branches_of (shape t) + marks_of (shape t) ≤ s.branches.taken + s.marks.taken
   pub order : Ordered 0 (shape t)
 
 -- what a shape takes, with p for a branch and q for a mark

@@ -2,6 +2,7 @@
 ghost use Rattle.std.specs.Prelude.{◌≡◌, ◌≤◌, length, take};
 ghost use Rattle.tree.specs.Meant.{SomeRules};
 
+use crate::pool::Pool;
 use crate::records::{Branch, Mark, NONE, Store};
 use crate::space::Space;
 use crate::walk::Walk;
@@ -53,14 +54,18 @@ impl<'a> Tree<'a> {
     pub fn new(branches: &'a mut [Branch], marks: &'a mut [Mark], widths: Widths) -> Tree<'a>
         ensures means { Means result [] }
         ensures fields { result.fields ≡ length (widths_of widths) }
-        ensures memory { (result.store.branches.now ≡ branches.old) × (result.store.marks.now ≡ marks.old) }
+        ensures memory { (result.store.branches.records.now ≡ branches.old) × (result.store.marks.records.now ≡ marks.old) }
     {
         Tree {
             store: Store {
-                branches,
-                marks,
-                used: 0,
-                marked: 0,
+                branches: Pool {
+                    records: branches,
+                    taken: 0,
+                },
+                marks: Pool {
+                    records: marks,
+                    taken: 0,
+                },
             },
             root: NONE,
             fields: widths.fields(),
@@ -72,8 +77,8 @@ impl<'a> Tree<'a> {
         ensures { result ≡ room_of self.now }
     {
         Space {
-            branches: self.store.branches.len().min(MOST_BRANCHES) as u64,
-            marks: self.store.marks.len().min(MOST_MARKS) as u64,
+            branches: self.store.branches.records.len().min(MOST_BRANCHES) as u64,
+            marks: self.store.marks.records.len().min(MOST_MARKS) as u64,
         }
     }
 
@@ -82,8 +87,8 @@ impl<'a> Tree<'a> {
         ensures { Uses self.now result }
     {
         Space {
-            branches: self.store.used as u64,
-            marks: self.store.marked as u64,
+            branches: self.store.branches.taken as u64,
+            marks: self.store.marks.taken as u64,
         }
     }
 
@@ -133,7 +138,7 @@ impl<'a> Tree<'a> {
         requires { Marked self.now at }
         ensures { Reads self.now at result }
     {
-        self.store.mark(at)
+        self.store.marks.get(at)
     }
 
     // The first cell below branches within given intervals.

@@ -38,12 +38,12 @@ impl Store<'_> {
         let mut at = first;
         while at != NONE {
             if left == 0 {
-                let m = self.mark(at);
+                let m = self.marks.get(at);
                 sum = sum.plus(ONE_MARK);
                 at = m.next;
                 continue;
             }
-            let b = self.branch(at);
+            let b = self.branches.get(at);
             sum = sum.plus(ONE_BRANCH).plus(self.space_of(left - 1, b.below));
             at = b.next;
         }
@@ -96,7 +96,7 @@ impl Store<'_> {
         let mut sum = NOTHING;
         let mut at = first;
         while at != NONE {
-            let b = self.branch(at);
+            let b = self.branches.get(at);
             let gap = gap_before(want, b.low, ends.high, new);
             let parts = self
                 .outside(left, b, ends)

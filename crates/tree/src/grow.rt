@@ -4,7 +4,7 @@ ghost use Rattle.shape.specs.Shapes.{cut_at, add_mark, under, cut_above, gaps, r
 ghost use Rattle.std.specs.List.{AllByRecursion};
 ghost use Rattle.shape.specs.Meaning.{Upward};
 ghost use Rattle.tree.specs.Links.{Records, shape, root, Stands, Can, Does, tail, Gap, Inserted};
-ghost use Rattle.tree.specs.Memory.{live, space};
+ghost use Rattle.tree.specs.Pools.{space};
 ghost use Rattle.tree.specs.declared.records.Store.{Store as AnyStore};
 
 use crate::records::{Branch, Mark, NONE, Store};
@@ -26,22 +26,20 @@ impl Store<'_> {
     {
         let mut at = first;
         while at != NONE {
-            let b = self.branch(at);
+            let b = self.branches.get(at);
             if b.low < x && x <= b.high {
                 let copy = self.copy_node(left - 1, b.below);
-                let new = self.push_branch(Branch {
+                let new = self.branches.push(Branch {
                     low: x,
-                    high: b.high,
                     below: copy,
-                    next: b.next,
+                    ..b
                 });
-                self.write_branch(
+                self.branches.set(
                     at,
                     Branch {
-                        low: b.low,
                         high: x - 1,
-                        below: b.below,
                         next: new,
+                        ..b
                     },
                 );
                 return;
@@ -56,23 +54,23 @@ impl Store<'_> {
         ensures { Does self.old self.new 0 first result (add_mark i) }
     {
         if first == NONE {
-            return self.push_mark(Mark {
+            return self.marks.push(Mark {
                 rule: i,
                 next: NONE,
             });
         }
         let mut at = first;
         loop {
-            let next = self.next(0, at);
-            if next == NONE {
-                let new = self.push_mark(Mark {
+            let m = self.marks.get(at);
+            if m.next == NONE {
+                let new = self.marks.push(Mark {
                     rule: i,
                     next: NONE,
                 });
-                self.link(0, at, new);
+                self.marks.set(at, Mark { next: new, ..m });
                 return first;
             }
-            at = next;
+            at = m.next;
         }
     }
 
@@ -95,7 +93,7 @@ impl Store<'_> {
         if next == NONE {
             return Some(high);
         }
-        let upper = self.branch(next);
+        let upper = self.branches.get(next);
         if from < upper.low {
             return Some(high.min(upper.low - 1));
         }
@@ -104,25 +102,18 @@ impl Store<'_> {
 
     // Puts a new branch, with nothing below it, after the one at `at`.
     fn put_after(&mut self, at: u32, low: u32, high: u32)
-        requires { (0 < live self.old at) × ((at < 0xffff_ffff) × (self.old.used < space (length self.old.branches.now))) }
+        requires inside { at < length self.old.branches.records.now }
+        requires room { self.old.branches.taken < space (length self.old.branches.records.now) }
         ensures { (s : AnyStore) × ((new : ℕ) × Inserted self.old s self.new at low high new) }
     {
-        let b = self.branch(at);
-        let new = self.push_branch(Branch {
+        let b = self.branches.get(at);
+        let new = self.branches.push(Branch {
             low,
             high,
             below: NONE,
             next: b.next,
         });
-        self.write_branch(
-            at,
-            Branch {
-                low: b.low,
-                high: b.high,
-                below: b.below,
-                next: new,
-            },
-        );
+        self.branches.set(at, Branch { next: new, ..b });
     }
 
     // Fills the gaps of `low` to `high` that come after the first branch of the node at `first`.
@@ -133,7 +124,7 @@ impl Store<'_> {
         let mut at = first;
         let mut want = low;
         while at != NONE {
-            let b = self.branch(at);
+            let b = self.branches.get(at);
             if high <= b.high {
                 return;
             }
@@ -155,7 +146,7 @@ impl Store<'_> {
         let gap = self.gap_before(left, first, low, high);
         self.fill_after(left, first, low, high);
         match gap {
-            Some(to) => self.push_branch(Branch {
+            Some(to) => self.branches.push(Branch {
                 low,
                 high: to,
                 below: NONE,
@@ -183,21 +174,13 @@ impl Store<'_> {
     {
         let mut at = first;
         while at != NONE {
-            let b = self.branch(at);
+            let b = self.branches.get(at);
             if b.low < ends.low || ends.high < b.high {
                 at = b.next;
                 continue;
             }
             let below = self.append(left - 1, b.below, rest, i);
-            self.write_branch(
-                at,
-                Branch {
-                    low: b.low,
-                    high: b.high,
-                    below,
-                    next: b.next,
-                },
-            );
+            self.branches.set(at, Branch { below, ..b });
             at = b.next;
         }
     }

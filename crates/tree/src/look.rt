@@ -17,7 +17,7 @@ impl Store<'_> {
     {
         let mut at = first;
         while at != NONE {
-            let b = self.branch(at);
+            let b = self.branches.get(at);
             let ends = Ends {
                 low: b.low,
                 high: b.high,

@@ -1,7 +1,10 @@
-// The records of a tree, in two slices that the caller lends. They are taken one after the other and never given back.
+// The records of a tree.
 ghost use Rattle.std.specs.Prelude.{◌≡◌};
 
-// A branch of a node: its interval, what is below it, and the next branch of the node.
+use crate::pool::Pool;
+
+// A branch of a node: its interval, what is below it, and the next branch of the node. Links are 32 bits wide, and `NONE` leads nowhere,
+// so that a record takes the caller 16 bytes.
 #[derive(Clone, Copy)]
 pub struct Branch {
     pub low: u32,
@@ -32,11 +35,9 @@ impl Mark {
     }
 }
 
-// So many branches and so many marks are taken.
+// The branches and the marks of a tree, in two slices that the caller lends.
 #[derive(Drop)]
 pub struct Store<'a> {
-    pub(crate) branches: &'a mut [Branch],
-    pub(crate) marks: &'a mut [Mark],
-    pub(crate) used: usize,
-    pub(crate) marked: usize,
+    pub(crate) branches: Pool<'a, Branch>,
+    pub(crate) marks: Pool<'a, Mark>,
 }

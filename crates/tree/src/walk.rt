@@ -40,7 +40,7 @@ impl Store<'_> {
         let mut at = first;
         while k < within.len() {
             if at != NONE {
-                let b = self.branch(at);
+                let b = self.branches.get(at);
                 let ends = within[k];
                 if b.low < ends.low || ends.high < b.high {
                     at = b.next;
@@ -61,7 +61,7 @@ impl Store<'_> {
                 };
             }
             k -= 1;
-            at = self.branch(path[k]).next;
+            at = self.branches.get(path[k]).next;
         }
         Walk {
             found: true,
@@ -88,7 +88,7 @@ impl Store<'_> {
     {
         let path = walk.path;
         let last = within.len() - 1;
-        let at = self.branch(path[last]).next;
+        let at = self.branches.get(path[last]).next;
         self.settle(within, path, walk.corner, last, at)
     }
 }

@@ -11,7 +11,7 @@ empty_space zero m = (refl, refl)
 empty_space (suc d) m = (refl, refl)
 
 -- where nothing is taken, the records mean no rules
-no_rules : (s : Store) (d : ℕ) → (1 ≤ d) × (d ≤ 8) → s.used ≡ 0 → s.marked ≡ 0 → Meant s 0xffff_ffff d []
+no_rules : (s : Store) (d : ℕ) → (1 ≤ d) × (d ≤ 8) → s.branches.taken ≡ 0 → s.marks.taken ≡ 0 → Meant s 0xffff_ffff d []
 no_rules s d few b m =
     record {
       fields = few;

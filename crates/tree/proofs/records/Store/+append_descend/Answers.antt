@@ -5,8 +5,9 @@ use Rattle.shape.specs.Meaning.{Upward}
 use Rattle.tree.specs.Links.{Records, shape, Fits, Became}
 use Rattle.tree.specs.declared.records.Store.{Store}
 use Rattle.routing.specs.declared.ends.Ends.{Ends}
+use Rattle.tree.proofs.Places.{inside_branch, wrote_branch}
 use Rattle.tree.proofs.Copies.{written_branch}
-use Rattle.tree.proofs.Changing.{start, alive_branch, see_branch, stands, pass, less, done}
+use Rattle.tree.proofs.Changing.{start, there_branch, see_branch, stands, pass, less, done}
 use Rattle.tree.proofs.Grows.{Grows}
 use Rattle.tree.proofs.Descends.{first_ends, other_ends, no_ends, under_past, below_fits, alive_after, turn_change, turned, ends_split, ahead, onward, chained, under_grows, insert_grows}
 use Rattle.tree.proofs.records.Store.+append_descend.Goals as goal
@@ -81,50 +82,50 @@ append-returns t c u K =
 pub descend-loop-at-init : goal.descend-loop-at-init
 descend-loop-at-init t c = start _ _ _ _
 
-pub descend-branch-b-requires : goal.descend-branch-b-requires
-descend-branch-b-requires t c =
-    alive_branch (c.loop-at.invariant _ c.requires.0.1) (omega (arith, c.requires.1.0)) c.loop-at-test.true
+pub descend-get-b-requires : goal.descend-get-b-requires
+descend-get-b-requires t c =
+    there_branch (c.loop-at.invariant _ c.requires.0.1) c.loop-at-test.true (omega (arith, c.requires.1.0))
 
 pub descend-loop-at-smaller-then-b-ends : goal.descend-loop-at-smaller-then-b-ends
 descend-loop-at-smaller-then-b-ends t c =
     let W = c.loop-at.invariant _ c.requires.0.1 in
-    let F = see_branch _ _ _ _ W (omega (arith, c.requires.1.0)) c.loop-at-test.true c.branch-b.ensures in
+    let F = see_branch W c.loop-at-test.true (omega (arith, c.requires.1.0)) c.get-b.ensures in
     less W F _ (stands W F).holds.3
 
 pub descend-loop-at-preserved-then-b-ends : goal.descend-loop-at-preserved-then-b-ends
 descend-loop-at-preserved-then-b-ends t c tree K =
     let W = c.loop-at.invariant tree K in
-    let F = see_branch _ _ _ _ W (omega (arith, c.requires.1.0)) c.loop-at-test.true c.branch-b.ensures in
+    let F = see_branch W c.loop-at-test.true (omega (arith, c.requires.1.0)) c.get-b.ensures in
     pass W F _ (under_past c.args.ends.low c.args.ends.high c.args.rest.now c.args.i W F c.then-b-ends.either)
 
 pub descend-append-below-requires : goal.descend-append-below-requires
 descend-append-below-requires t c =
     let W = c.loop-at.invariant _ c.requires.0.1 in
-    let F = see_branch _ _ _ _ W (omega (arith, c.requires.1.0)) c.loop-at-test.true c.branch-b.ensures in
+    let F = see_branch W c.loop-at-test.true (omega (arith, c.requires.1.0)) c.get-b.ensures in
     (omega (arith, c.decreases, c.requires.1.0), ((F.below, below_fits c.args.ends.low c.args.ends.high c.args.rest.now c.args.i W F c.if-b-ends.false c.if-ends-b.false), (omega (arith, c.requires.1.0), c.requires.1.1)))
 
-pub descend-write_branch-requires : goal.descend-write_branch-requires
-descend-write_branch-requires t c =
+pub descend-set-requires : goal.descend-set-requires
+descend-set-requires t c =
     let W = c.loop-at.invariant _ c.requires.0.1 in
-    let F = see_branch _ _ _ _ W (omega (arith, c.requires.1.0)) c.loop-at-test.true c.branch-b.ensures in
+    let F = see_branch W c.loop-at-test.true (omega (arith, c.requires.1.0)) c.get-b.ensures in
     let (u, B) = c.append-below.ensures F.below (below_fits c.args.ends.low c.args.ends.high c.args.rest.now c.args.i W F c.if-b-ends.false c.if-ends-b.false) in
-    alive_after c.args.ends.low c.args.ends.high c.args.rest.now c.args.i W F c.if-b-ends.false c.if-ends-b.false _ _ u B (omega (arith, c.requires.1.0))
+    inside_branch c.append-below.new.self c.loop-at.at (omega (arith, (stands W F).holds.0)) (alive_after c.args.ends.low c.args.ends.high c.args.rest.now c.args.i W F c.if-b-ends.false c.if-ends-b.false _ _ u B (omega (arith, c.requires.1.0)))
 
 pub descend-loop-at-smaller : goal.descend-loop-at-smaller
 descend-loop-at-smaller t c =
     let W = c.loop-at.invariant _ c.requires.0.1 in
-    let F = see_branch _ _ _ _ W (omega (arith, c.requires.1.0)) c.loop-at-test.true c.branch-b.ensures in
+    let F = see_branch W c.loop-at-test.true (omega (arith, c.requires.1.0)) c.get-b.ensures in
     let (u, B) = c.append-below.ensures F.below (below_fits c.args.ends.low c.args.ends.high c.args.rest.now c.args.i W F c.if-b-ends.false c.if-ends-b.false) in
-    let Q = written_branch _ _ c.args.left _ _ (λ z. omega (arith, c.requires.1.0)) c.write_branch.ensures in
+    let Q = written_branch _ _ c.args.left _ _ (λ z. omega (arith, c.requires.1.0)) (wrote_branch _ _ _ _ (omega (arith, (stands W F).holds.0)) c.set.ensures) in
     less W F _
     (turn_change c.args.ends.low c.args.ends.high c.args.rest.now c.args.i W F c.if-b-ends.false c.if-ends-b.false _ _ _ u B Q).holds.3
 
 pub descend-loop-at-preserved : goal.descend-loop-at-preserved
 descend-loop-at-preserved t c tree K =
     let W = c.loop-at.invariant tree K in
-    let F = see_branch _ _ _ _ W (omega (arith, c.requires.1.0)) c.loop-at-test.true c.branch-b.ensures in
+    let F = see_branch W c.loop-at-test.true (omega (arith, c.requires.1.0)) c.get-b.ensures in
     let (u, B) = c.append-below.ensures F.below (below_fits c.args.ends.low c.args.ends.high c.args.rest.now c.args.i W F c.if-b-ends.false c.if-ends-b.false) in
-    let Q = written_branch _ _ c.args.left _ _ (λ z. omega (arith, c.requires.1.0)) c.write_branch.ensures in
+    let Q = written_branch _ _ c.args.left _ _ (λ z. omega (arith, c.requires.1.0)) (wrote_branch _ _ _ _ (omega (arith, (stands W F).holds.0)) c.set.ensures) in
     turned c.args.ends.low c.args.ends.high c.args.rest.now c.args.i W F c.if-b-ends.false c.if-ends-b.false _ _ _ u B Q
 
 pub descend-returns : goal.descend-returns

@@ -14,7 +14,7 @@ abbrev pub invariant-descend-loop-at : goal.invariant-descend-loop-at
 invariant-descend-loop-at l =
     (t : Records) → Fits l.initial.self l.left l.first t (under l.ends.low l.ends.high (insert l.rest l.i) (shape t))
     → Walk l.initial.self l.left l.first (under l.ends.low l.ends.high (insert l.rest l.i)) t l.self l.at
-    (l.initial.self.used + l.initial.self.marked) (under l.ends.low l.ends.high (insert l.rest l.i))
+    (l.initial.self.branches.taken + l.initial.self.marks.taken) (under l.ends.low l.ends.high (insert l.rest l.i))
 
 abbrev pub decreases-descend-loop-at : goal.decreases-descend-loop-at
-decreases-descend-loop-at l = chain (l.initial.self.used + l.initial.self.marked) l.self l.left l.at
+decreases-descend-loop-at l = chain (l.initial.self.branches.taken + l.initial.self.marks.taken) l.self l.left l.at

@@ -13,9 +13,9 @@ decreases-copy_node l = 2 * l.left + 1
 abbrev pub invariant-copy_node-loop-at : goal.invariant-copy_node-loop-at
 invariant-copy_node-loop-at l =
     (r : Records) (m : Label) (b : Records)
-    → Ready l.initial.self l.left l.initial.at l.initial.last (l.initial.self.used + l.initial.self.marked) r m b
+    → Ready l.initial.self l.left l.initial.at l.initial.last (l.initial.self.branches.taken + l.initial.self.marks.taken) r m b
     → Midway l.initial.self l.left l.initial.last r m b l.self l.at l.last
-    (l.initial.self.used + l.initial.self.marked)
+    (l.initial.self.branches.taken + l.initial.self.marks.taken)
 
 abbrev pub decreases-copy_node-loop-at : goal.decreases-copy_node-loop-at
-decreases-copy_node-loop-at l = chain (l.initial.self.used + l.initial.self.marked) l.self l.left l.at
+decreases-copy_node-loop-at l = chain (l.initial.self.branches.taken + l.initial.self.marks.taken) l.self l.left l.at

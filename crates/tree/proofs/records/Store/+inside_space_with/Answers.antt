@@ -35,14 +35,14 @@ space_with-loop-at-init t c =
       omega (arith, c.from-want.ensures),
     )
 
-pub space_with-branch-b-requires : goal.space_with-branch-b-requires
-space_with-branch-b-requires t c = stays_branch (c.loop-at.invariant.0 _ 0 c.requires.0.1) (omega (arith, c.if-left-eq0.false)) c.loop-at-test.true
+pub space_with-get-b-requires : goal.space_with-get-b-requires
+space_with-get-b-requires t c = stays_branch (c.loop-at.invariant.0 _ 0 c.requires.0.1) (omega (arith, c.if-left-eq0.false)) c.loop-at-test.true
 
 pub space_with-outside-requires : goal.space_with-outside-requires
 space_with-outside-requires t c =
     let left : 0 < c.args.left = omega (arith, c.if-left-eq0.false) in
     let W = c.loop-at.invariant.0 _ 0 c.requires.0.1 in
-    let F = seen_branch W left c.loop-at-test.true c.branch-b.ensures in
+    let F = seen_branch W left c.loop-at-test.true c.get-b.ensures in
     ((F.below, below W F), left)
 
 pub space_with-inside-requires : goal.space_with-inside-requires
@@ -51,14 +51,14 @@ space_with-inside-requires t c =
     let pos : 0 < length xs = omega (arith, c.requires.1.0, c.if-left-eq0.false) in
     let left : 0 < c.args.left = omega (arith, c.if-left-eq0.false) in
     let W = c.loop-at.invariant.0 _ 0 c.requires.0.1 in
-    let F = seen_branch W left c.loop-at-test.true c.branch-b.ensures in
+    let F = seen_branch W left c.loop-at-test.true c.get-b.ensures in
     (omega (arith, c.decreases), ((F.below, below W F), (omega (arith, c.requires.1.0, ap length (ends_split xs pos)), (subst (AllByRecursion Upward) (ends_split xs pos) c.requires.1.1).1)))
 
 pub space_with-loop-at-smaller : goal.space_with-loop-at-smaller
 space_with-loop-at-smaller t c =
     let left : 0 < c.args.left = omega (arith, c.if-left-eq0.false) in
     let W = c.loop-at.invariant.0 _ 0 c.requires.0.1 in
-    less W (seen_branch W left c.loop-at-test.true c.branch-b.ensures)
+    less W (seen_branch W left c.loop-at-test.true c.get-b.ensures)
 
 pub space_with-loop-at-preserved : goal.space_with-loop-at-preserved
 space_with-loop-at-preserved t c =
@@ -68,11 +68,11 @@ space_with-loop-at-preserved t c =
     let e = first_ends xs in (
       λ u i S.
           let W = c.loop-at.invariant.0 u i S in
-          let F = seen_branch W left c.loop-at-test.true c.branch-b.ensures in
+          let F = seen_branch W left c.loop-at-test.true c.get-b.ensures in
           let new = weighs_both branch_weighs (c.space_with.ensures none i (nothing _ _)) c.plus-new.ensures in
-          let gap = weighs_when (leb c.loop-at.want e.high && ltb c.loop-at.want c.branch-b.result.low) new c.gap_before-gap.ensures in
+          let gap = weighs_when (leb c.loop-at.want e.high && ltb c.loop-at.want c.get-b.result.low) new c.gap_before-gap.ensures in
           let parts = weighs_both (c.outside.ensures F.below (below W F)) (c.inside.ensures F.below i (below W F)) c.plus-parts.ensures in
-          let small : c.branch-b.result.high ≤ 0xffff_ffff = search rules in
+          let small : c.get-b.result.high ≤ 0xffff_ffff = search rules in
           after W F _
           (turned e.low e.high (insert (other_ends xs) i) c.loop-at.want _ _ _ (shape F.below) (shape F.rest) (subst (AllByRecursion Upward) (ends_split xs pos) c.requires.1.1).0 c.loop-at.invariant.1 small (at_record W.stood F).order gap parts c.plus-in-loop-at.ensures c.plus-sum.ensures (c.max-want.ensures ∙ ap (λ n. max c.loop-at.want (n + 1)) c.from.ensures)),
       omega (arith, c.loop-at.invariant.1, c.max-want.ensures),

@@ -11,8 +11,8 @@ decreases-space_of l = l.left
 abbrev pub invariant-loop-at : goal.invariant-loop-at
 invariant-loop-at l =
     (t : Records) → Stood l.self l.left l.first t
-    → Passing l.self l.left l.at (l.self.used + l.self.marked)
+    → Passing l.self l.left l.at (l.self.branches.taken + l.self.marks.taken)
     (λ sh. Toward l.sum (λ p q. weight p q sh) (λ p q. weight p q (shape t)))
 
 abbrev pub decreases-loop-at : goal.decreases-loop-at
-decreases-loop-at l = chain (l.self.used + l.self.marked) l.self l.left l.at
+decreases-loop-at l = chain (l.self.branches.taken + l.self.marks.taken) l.self l.left l.at

@@ -7,8 +7,8 @@ use Rattle.tree.proofs.records.Store.add_mark.Given as goal
 abbrev pub invariant-loop-self : goal.invariant-loop-self
 invariant-loop-self l =
     ((t : Records) → Fits l.initial.self 0 l.first t (add_mark l.i (shape t))
-    → Walk l.initial.self 0 l.first (add_mark l.i) t l.self l.at (l.initial.self.used + l.initial.self.marked) (add_mark l.i))
+    → Walk l.initial.self 0 l.first (add_mark l.i) t l.self l.at (l.initial.self.branches.taken + l.initial.self.marks.taken) (add_mark l.i))
     × (l.at ≡ 0xffff_ffff → ⊥)
 
 abbrev pub decreases-loop-self : goal.decreases-loop-self
-decreases-loop-self l = chain (l.initial.self.used + l.initial.self.marked) l.self 0 l.at
+decreases-loop-self l = chain (l.initial.self.branches.taken + l.initial.self.marks.taken) l.self 0 l.at

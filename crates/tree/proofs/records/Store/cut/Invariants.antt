@@ -7,7 +7,7 @@ use Rattle.tree.proofs.records.Store.cut.Given as goal
 abbrev pub invariant-loop-at : goal.invariant-loop-at
 invariant-loop-at l =
     (t : Records) → Fits l.initial.self l.left l.first t (cut_at l.x (shape t))
-    → Walk l.initial.self l.left l.first (cut_at l.x) t l.self l.at (l.initial.self.used + l.initial.self.marked) (cut_at l.x)
+    → Walk l.initial.self l.left l.first (cut_at l.x) t l.self l.at (l.initial.self.branches.taken + l.initial.self.marks.taken) (cut_at l.x)
 
 abbrev pub decreases-loop-at : goal.decreases-loop-at
-decreases-loop-at l = chain (l.initial.self.used + l.initial.self.marked) l.self l.left l.at
+decreases-loop-at l = chain (l.initial.self.branches.taken + l.initial.self.marks.taken) l.self l.left l.at

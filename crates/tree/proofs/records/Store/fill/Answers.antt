@@ -1,4 +1,5 @@
 use Rattle.std.proofs.Common.{arith}
+use Rattle.tree.proofs.Places.{pushed_branch}
 use Rattle.tree.proofs.Copies.{new_branch}
 use Rattle.tree.proofs.Fills.{tail_fits, room_first, first_kept, first_filled}
 use Rattle.tree.proofs.records.Store.fill.Goals as goal
@@ -11,8 +12,8 @@ fill_after-requires c =
     let (t, K) = c.requires.0 in
     ((t, tail_fits _ _ _ _ _ t K _ (c.gap_before-gap.ensures t K.stands K.from)), c.requires.1)
 
-pub push_branch-requires : goal.push_branch-requires
-push_branch-requires c =
+pub push-requires : goal.push-requires
+push-requires c =
     let (t, K) = c.requires.0 in
     let G = c.gap_before-gap.ensures t K.stands K.from in
     let (u, B) = c.fill_after.ensures t (tail_fits _ _ _ _ _ t K _ G) in
@@ -22,8 +23,8 @@ pub returns-in-Some : goal.returns-in-Some
 returns-in-Some c t K =
     let G = c.gap_before-gap.ensures t K.stands K.from in
     let (u, B) = c.fill_after.ensures t (tail_fits _ _ _ _ _ t K _ G) in
-    first_filled _ _ _ _ _ t K _ u B c.in-Some.to (c.in-Some.ensures t K.stands K.from) _ _ c.push_branch.ensures.low
-    (new_branch _ _ c.args.left _ _ (λ z. omega (arith, c.requires.1.0)) c.push_branch.ensures.new)
+    first_filled _ _ _ _ _ t K _ u B c.in-Some.to (c.in-Some.ensures t K.stands K.from) _ _ c.push.ensures.low
+    (new_branch _ _ c.args.left _ _ (λ z. omega (arith, c.requires.1.0)) (pushed_branch _ _ _ _ c.push.ensures))
 
 pub returns-in-None : goal.returns-in-None
 returns-in-None c t K =

@@ -6,8 +6,8 @@ use Rattle.tree.proofs.records.Store.fill_after.Given as goal
 abbrev pub invariant-loop-at : goal.invariant-loop-at
 invariant-loop-at l =
     ((t : Records) → Fits l.initial.self l.left l.first t (tail l.low l.high (shape t))
-    → Walk l.initial.self l.left l.first (tail l.low l.high) t l.self l.at (l.initial.self.used + l.initial.self.marked) (tail l.want l.high))
+    → Walk l.initial.self l.left l.first (tail l.low l.high) t l.self l.at (l.initial.self.branches.taken + l.initial.self.marks.taken) (tail l.want l.high))
     × (l.want ≤ l.high)
 
 abbrev pub decreases-loop-at : goal.decreases-loop-at
-decreases-loop-at l = chain (l.initial.self.used + l.initial.self.marked) l.self l.left l.at
+decreases-loop-at l = chain (l.initial.self.branches.taken + l.initial.self.marks.taken) l.self l.left l.at

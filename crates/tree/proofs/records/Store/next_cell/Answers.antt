@@ -1,18 +1,18 @@
 use Rattle.std.proofs.Common.{arith}
-use Rattle.tree.proofs.Cells.{leave, leave_alive}
+use Rattle.tree.proofs.Cells.{leave, leave_there}
 use Rattle.tree.proofs.records.Store.next_cell.Goals as goal
 
-pub branch-at-requires : goal.branch-at-requires
-branch-at-requires c = leave_alive c.requires.walk.1.1.4 c.requires.few.1
+pub get-at-requires : goal.get-at-requires
+get-at-requires c = leave_there c.requires.walk.1.1.4 c.requires.few.1
 
 pub settle-requires : goal.settle-requires
 settle-requires c =
     let R = c.requires.walk.1.1 in
     record {
-      walk = (c.requires.walk.1.0, leave R.4 c.requires.few.1 c.branch-at.ensures);
+      walk = (c.requires.walk.1.0, leave R.4 c.requires.few.1 c.get-at.ensures);
       few = (c.requires.few.0, c.requires.few.1, omega arith);
       clear = R.2;
     }
 
 pub returns : goal.returns
-returns c x cs R = c.settle.ensures cs (leave R.4 c.requires.few.1 c.branch-at.ensures)
+returns c x cs R = c.settle.ensures cs (leave R.4 c.requires.few.1 c.get-at.ensures)

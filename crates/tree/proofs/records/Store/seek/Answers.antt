@@ -10,34 +10,34 @@ use Rattle.tree.proofs.records.Store.seek.Goals as goal
 pub loop-at-init : goal.loop-at-init
 loop-at-init c t S = begin _ _ _ t _ S refl
 
-pub branch-b-requires : goal.branch-b-requires
-branch-b-requires c = stays_branch (c.loop-at.invariant _ c.requires.0.1) c.requires.1 c.loop-at-test.true
+pub get-b-requires : goal.get-b-requires
+get-b-requires c = stays_branch (c.loop-at.invariant _ c.requires.0.1) c.requires.1 c.loop-at-test.true
 
 pub returns-then-holds : goal.returns-then-holds
 returns-then-holds c t S =
     let W = c.loop-at.invariant t S in
-    let F = seen_branch W c.requires.1 c.loop-at-test.true c.branch-b.ensures in
+    let F = seen_branch W c.requires.1 c.loop-at-test.true c.get-b.ensures in
     (F.below, record { stood = below W F; is = sym (cond-true _ _ _ (sym c.holds.ensures ∙ c.if-holds.true)) ∙ at_fact W F })
 
 -- the first that begins above ends the search
 pub returns-then-value-b : goal.returns-then-value-b
 returns-then-value-b c t S =
     let W = c.loop-at.invariant t S in
-    let F = seen_branch W c.requires.1 c.loop-at-test.true c.branch-b.ensures in
+    let F = seen_branch W c.requires.1 c.loop-at-test.true c.get-b.ensures in
     let o = (at_record W.stood F).order in
-    let b = c.branch-b.result in
+    let b = c.get-b.result in
     let up : Ordered b.low (part (piece b.low b.high) (shape F.below) (shape F.rest)) = (omega arith, o.1, o.2, o.3) in
     (none, record { stood = nothing _ _; is = sym (seek_none c.args.value b.low (part (piece b.low b.high) (shape F.below) (shape F.rest)) c.if-value-b.true up) ∙ at_fact W F })
 
 pub loop-at-smaller : goal.loop-at-smaller
 loop-at-smaller c =
     let W = c.loop-at.invariant _ c.requires.0.1 in
-    less W (seen_branch W c.requires.1 c.loop-at-test.true c.branch-b.ensures)
+    less W (seen_branch W c.requires.1 c.loop-at-test.true c.get-b.ensures)
 
 pub loop-at-preserved : goal.loop-at-preserved
 loop-at-preserved c t S =
     let W = c.loop-at.invariant t S in
-    let F = seen_branch W c.requires.1 c.loop-at-test.true c.branch-b.ensures in
+    let F = seen_branch W c.requires.1 c.loop-at-test.true c.get-b.ensures in
     after W F _ (λ e. sym (cond-false _ _ _ (sym c.holds.ensures ∙ c.if-holds.false)) ∙ e)
 
 pub returns : goal.returns

@@ -8,7 +8,7 @@ use Rattle.tree.proofs.records.Store.seek.Given as goal
 abbrev pub invariant-loop-at : goal.invariant-loop-at
 invariant-loop-at l =
     (t : Records) → Stood l.self l.left l.first t
-    → Passing l.self l.left l.at (l.self.used + l.self.marked) (λ sh. seek_in l.value sh ≡ seek_in l.value (shape t))
+    → Passing l.self l.left l.at (l.self.branches.taken + l.self.marks.taken) (λ sh. seek_in l.value sh ≡ seek_in l.value (shape t))
 
 abbrev pub decreases-loop-at : goal.decreases-loop-at
-decreases-loop-at l = chain (l.self.used + l.self.marked) l.self l.left l.at
+decreases-loop-at l = chain (l.self.branches.taken + l.self.marks.taken) l.self l.left l.at
