@@ -1,6 +1,6 @@
 -- The tree that stands in the records is read off them. Assumes nothing.
 use Rattle.std.proofs.Common.{◌≡◌, ℕ, zero, suc, ◌+◌, ◌-◌, ◌≤◌, cond, eqb, List, [], ◌∷◌, take, sym, refl, ap, ◌∙◌, subst, ap₂, arith}
-use mathlib.Core.Logic.{∥∥₁_elim}
+use Rattle.std.proofs.Math.Logic.{∥∥₁_elim}
 use native.Mathlib.Bridge.{le_prop}
 use native.Mathlib.Nat.{ℕ_set}
 use Rattle.std.proofs.lemmas.Bool.{cond-false, ne_eqb}
@@ -75,11 +75,11 @@ sized {s} {first} {d} {T} m =
     (ap branches_of m.records.3 ∙ e.0 ∙ sym m.branches, ap marks_of m.records.3 ∙ e.1 ∙ sym m.marks)
 
 -- what is read at the root
-abbrev read : Store → (first d : ℕ) → Records
+abbrev pub read : Store → (first d : ℕ) → Records
 read s first d = read_at (s.branches.taken + s.marks.taken) s d first
 
 -- it is the tree of the rules
-read_tree : {s : Store} {first d : ℕ} {T : List (List Ends)} (m : Meant s first d T) → m.records.0 ≡ read s first d
+pub read_tree : {s : Store} {first d : ℕ} {T : List (List Ends)} (m : Meant s first d T) → m.records.0 ≡ read s first d
 read_tree {s} {first} {d} m =
     let z = sized m in
     let n = s.branches.taken + s.marks.taken in

@@ -15,9 +15,9 @@ use Rattle.tree.specs.declared.records.Mark.{Mark}
 use Rattle.tree.specs.declared.space.Space.{Space}
 use Rattle.tree.specs.declared.walk.Walk.{Walk}
 
--- n is the number of the next rule
+-- n is the number of the next rule: one above how many there are
 abbrev pub Next : Tree → ℕ → Type 0
-Next x n = (T : List (List Ends)) × Means x T × (n ≡ length T + 1)
+Next x n = ∥ ((T : List (List Ends)) × Means x T × (n ≡ length T + 1)) ∥₁
 
 -- the branches and the marks that are taken are those that the rules need
 abbrev pub Uses : Tree → Space → Type 0

@@ -1,12 +1,11 @@
-use Rattle.std.proofs.Common.{◌≡◌, ℕ, ◌+◌, List, [], ◌∷◌, ◌++◌, length, Some, None, Option, sym, refl, subst, arith}
+use Rattle.std.proofs.Common.{◌≡◌, ℕ, List, [], ◌∷◌, ◌++◌, Some, None, Option, sym, refl, subst, arith}
+use Rattle.std.proofs.Math.Logic.{∥∥₁_map}
 use Rattle.std.specs.List.{AllByRecursion}
-use Rattle.shape.specs.Shapes.{insert}
 use Rattle.shape.specs.Meaning.{Upward}
-use Rattle.tree.specs.Links.{Records, shape, Became}
 use Rattle.tree.specs.Means.{Means, lacking}
 use Rattle.routing.specs.declared.ends.Ends.{Ends}
-use Rattle.tree.proofs.Recovers.{recovered}
-use Rattle.tree.proofs.Meanings.{upward, enough, rule_fits, meant_more, room_kept, lacks_nothing, lacks_branches, lacks_marks}
+use Rattle.tree.proofs.Recovers.{read}
+use Rattle.tree.proofs.Meanings.{upward, next_fits, next_meant, room_kept, lacks_nothing, lacks_branches, lacks_marks}
 use Rattle.tree.proofs.all_match.Tree.append.Goals as goal
 
 -- the rules with the new one
@@ -19,19 +18,20 @@ some_none p q = let z : ◌≡◌ {A = ℕ} 0 1 = cc in omega arith
 pub append-self-requires : goal.append-self-requires
 append-self-requires c =
     let x = c.args.self.now in
-    let (T, e, next) = c.requires.means in
-    let m = recovered e in
-    let is = c.first_of.ensures.first in
-    let k = enough x (more T c.args.ends.now) _ _ (c.space_with-need.ensures T e) c.room-room.ensures in (
-      (m.records.0, rule_fits m c.args.ends.now c.requires.proper c.first_of.result.now c.args.number is next (k.0 c.if-need-room.false) (k.1 c.if-need-room-2.false)),
-      (sym c.first_of.ensures.length, subst (AllByRecursion Upward) (sym is) (upward _ c.requires.proper.1)),
+    let first = c.first_of.ensures in (
+      (
+        read x.store x.root x.fields,
+        next_fits c.args.ends.now c.requires.proper c.first_of.result.now c.args.number first.first _ _ c.space_with-need.ensures c.room-room.ensures
+            c.if-need-room.false c.if-need-room-2.false c.requires.means,
+      ),
+      (sym first.length, subst (AllByRecursion Upward) (sym first.first) (upward _ c.requires.proper.1)),
     )
 
 pub returns-then-need-room : goal.returns-then-need-room
 returns-then-need-room c =
     let x = c.args.self.now in
     let told : (T : List (List Ends)) → Means x T → lacking x (more T c.args.ends.now) ≡ Some 11 =
-    λ T e. lacks_branches x (more T c.args.ends.now) ((enough x (more T c.args.ends.now) _ _ (c.space_with-need.ensures T e) c.room-room.ensures).2 c.if-need-room.true) in
+    λ T e. lacks_branches x (more T c.args.ends.now) _ _ (c.space_with-need.ensures T e) c.room-room.ensures c.if-need-room.true in
     record { answer = told; granted = λ T e n h. absurd (some_none (told T e) h); refused = λ T n e h. refl; fields = refl; room = refl }
 
 pub returns-then-need-room-2 : goal.returns-then-need-room-2
@@ -39,39 +39,50 @@ returns-then-need-room-2 c =
     let x = c.args.self.now in
     let told : (T : List (List Ends)) → Means x T → lacking x (more T c.args.ends.now) ≡ Some 12 =
     λ T e.
-    let k = enough x (more T c.args.ends.now) _ _ (c.space_with-need.ensures T e) c.room-room.ensures in
-    lacks_marks x (more T c.args.ends.now) (k.0 c.if-need-room.false) (k.3 c.if-need-room-2.true) in
+    lacks_marks x (more T c.args.ends.now) _ _ (c.space_with-need.ensures T e) c.room-room.ensures c.if-need-room.false c.if-need-room-2.true in
     record { answer = told; granted = λ T e n h. absurd (some_none (told T e) h); refused = λ T n e h. refl; fields = refl; room = refl }
-
-pub returns : goal.returns
-returns c =
-    let x = c.args.self.now in
-    let es = c.args.ends.now in
-    let told : (T : List (List Ends)) → Means x T → lacking x (more T es) ≡ None =
-    λ T e.
-    let k = enough x (more T es) _ _ (c.space_with-need.ensures T e) c.room-room.ensures in
-    lacks_nothing x (more T es) (k.0 c.if-need-room.false) (k.1 c.if-need-room-2.false) in
-    let became : (T : List (List Ends)) (e : Means x T) → c.args.number ≡ length T + 1 → (u : Records) × Became x.store c.append-self.new.self x.fields (recovered e).records.0 (insert c.first_of.result.now c.args.number (shape (recovered e).records.0)) c.append-self.result u =
-    λ T e next.
-    let k = enough x (more T es) _ _ (c.space_with-need.ensures T e) c.room-room.ensures in
-    c.append-self.ensures (recovered e).records.0 (rule_fits (recovered e) es c.requires.proper c.first_of.result.now c.args.number c.first_of.ensures.first next (k.0 c.if-need-room.false) (k.1 c.if-need-room-2.false)) in
-    record {
-      answer = told;
-      granted =
-          λ T e next _.
-          let (u, B) = became T e next in
-          (∣ meant_more (recovered e) es c.requires.proper c.first_of.result.now c.args.number c.first_of.ensures.first next c.append-self.new.self c.append-self.result u B ∣₁, λ k z. (B.change.spare k z).1);
-      refused = λ T n e h. absurd (some_none h (told T e));
-      fields = refl;
-      room = (let (T, e, next) = c.requires.means in let (u, B) = became T e next in room_kept x.store c.append-self.new.self x.fields (recovered e).records.0 u B.change);
-    }
 
 pub invariant_of-self : goal.invariant_of-self
 invariant_of-self c =
     let x = c.args.self.now in
     let es = c.args.ends.now in
-    let (T, e, next) = c.requires.means in
-    let m = recovered e in
-    let k = enough x (more T es) _ _ (c.space_with-need.ensures T e) c.room-room.ensures in
-    let (u, B) = c.append-self.ensures m.records.0 (rule_fits m es c.requires.proper c.first_of.result.now c.args.number c.first_of.ensures.first next (k.0 c.if-need-room.false) (k.1 c.if-need-room-2.false)) in
-    record { rules = ∣ (more T es, meant_more m es c.requires.proper c.first_of.result.now c.args.number c.first_of.ensures.first next c.append-self.new.self c.append-self.result u B) ∣₁ }
+    let first = c.first_of.ensures.first in
+    let told = c.space_with-need.ensures in
+    let (u, B) =
+    c.append-self.ensures (read x.store x.root x.fields)
+    (next_fits es c.requires.proper c.first_of.result.now c.args.number first _ _ told c.room-room.ensures c.if-need-room.false c.if-need-room-2.false
+    c.requires.means) in
+    record {
+      rules =
+          ∥∥₁_map c.requires.means
+          (λ p. (
+            more p.0 es,
+            next_meant es c.requires.proper c.first_of.result.now c.args.number first _ _ told c.room-room.ensures c.if-need-room.false
+                c.if-need-room-2.false p.1 p.2 _ _ u B,
+          ));
+    }
+
+pub returns : goal.returns
+returns c =
+    let x = c.args.self.now in
+    let es = c.args.ends.now in
+    let first = c.first_of.ensures.first in
+    let told = c.space_with-need.ensures in
+    let none : (T : List (List Ends)) → Means x T → lacking x (more T es) ≡ None =
+    λ T e. lacks_nothing x (more T es) _ _ (told T e) c.room-room.ensures c.if-need-room.false c.if-need-room-2.false in
+    let (u, B) =
+    c.append-self.ensures (read x.store x.root x.fields)
+    (next_fits es c.requires.proper c.first_of.result.now c.args.number first _ _ told c.room-room.ensures c.if-need-room.false c.if-need-room-2.false
+    c.requires.means) in
+    record {
+      answer = none;
+      granted =
+          λ T e next _. (
+            ∣ next_meant es c.requires.proper c.first_of.result.now c.args.number first _ _ told c.room-room.ensures c.if-need-room.false
+                c.if-need-room-2.false e next _ _ u B ∣₁,
+            λ k z. (B.change.spare k z).1,
+          );
+      refused = λ T n e h. absurd (some_none h (none T e));
+      fields = refl;
+      room = room_kept x.store c.append-self.new.self x.fields _ u B.change;
+    }
