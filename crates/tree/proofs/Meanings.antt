@@ -124,23 +124,29 @@ fits_prop s d first t sh a b =
       room_marks = le_prop a.room_marks b.room_marks i;
     }
 
--- The next rule e of some rules, by its first intervals es and its number n, where the space that was counted is no more than the room.
-module _
-    {s : Store} {first d : ℕ} (e : List Ends) (ok : Proper d e) (es : List Ends) (n : ℕ) (front : es ≡ take d e)
-    (need room : Space) (counted : (T : List (List Ends)) → ∥ Meant s first d T ∥₁ → need ≡ need_of d (T ++ e ∷ [])) (all : room ≡ room_in s)
-    (few : need.branches ≤ room.branches) (few_marks : need.marks ≤ room.marks) where
-  -- there is room for the rule in the tree that is read
+-- The next rule e, by its first intervals es, where the space that was counted is no more than the room.
+pub record Ready (s : Store) (first d : ℕ) (e es : List Ends) (need room : Space) : Type 0 where
+  pub proper : Proper d e
+  pub front : es ≡ take d e
+  pub counted : (T : List (List Ends)) → ∥ Meant s first d T ∥₁ → need ≡ need_of d (T ++ e ∷ [])
+  pub all : room ≡ room_in s
+  pub few : need.branches ≤ room.branches
+  pub few_marks : need.marks ≤ room.marks
+
+module _ {s : Store} {first d : ℕ} {e es : List Ends} {need room : Space} (R : Ready s first d e es need room) (n : ℕ) where
+  -- there is room for it in the tree that is read
   pub next_fits :
       ∥ ((T : List (List Ends)) × ∥ Meant s first d T ∥₁ × (n ≡ length T + 1)) ∥₁ → Fits s d first (read s first d) (insert es n (shape (read s first d)))
   next_fits q =
       ∥∥₁_elim q (fits_prop s d first _ _)
       (λ p.
       let m = recovered p.1 in
-      let b = ap (λ y. y.branches) (counted p.0 p.1) in
-      let c = ap (λ y. y.marks) (counted p.0 p.1) in
-      let f = ap (λ y. y.branches) all in
-      let g = ap (λ y. y.marks) all in
-      subst (λ t. Fits s d first t (insert es n (shape t))) (read_tree m) (rule_fits m e ok es n front p.2 (omega arith) (omega arith)))
+      let b = ap (λ y. y.branches) (R.counted p.0 p.1) in
+      let c = ap (λ y. y.marks) (R.counted p.0 p.1) in
+      let f = ap (λ y. y.branches) R.all in
+      let g = ap (λ y. y.marks) R.all in
+      subst (λ t. Fits s d first t (insert es n (shape t))) (read_tree m)
+      (rule_fits m e R.proper es n R.front p.2 (omega (arith, R.few)) (omega (arith, R.few_marks))))
 
   -- and afterwards the records mean the rules with it
   pub next_meant :
@@ -149,7 +155,7 @@ module _
       → Meant s' r d (T ++ e ∷ [])
   next_meant p next s' r u B =
       let m = recovered p in
-      meant_more m e ok es n front next s' r u (subst (λ t. Became s s' d t (insert es n (shape t)) r u) (sym (read_tree m)) B)
+      meant_more m e R.proper es n R.front next s' r u (subst (λ t. Became s s' d t (insert es n (shape t)) r u) (sym (read_tree m)) B)
 
 -- the room stays
 pub room_kept : (s s' : Store) (d : ℕ) (t u : Records) → Changed s s' d t u → room_in s' ≡ room_in s

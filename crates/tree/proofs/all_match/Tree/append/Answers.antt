@@ -1,11 +1,11 @@
-use Rattle.std.proofs.Common.{◌≡◌, ℕ, List, [], ◌∷◌, ◌++◌, Some, None, Option, sym, refl, subst, arith}
+use Rattle.std.proofs.Common.{◌≡◌, ℕ, List, [], ◌∷◌, ◌++◌, Some, None, Option, sym, refl, subst, arith, rules}
 use Rattle.std.proofs.Math.Logic.{∥∥₁_map}
 use Rattle.std.specs.List.{AllByRecursion}
 use Rattle.shape.specs.Meaning.{Upward}
 use Rattle.tree.specs.Means.{Means, lacking}
 use Rattle.routing.specs.declared.ends.Ends.{Ends}
 use Rattle.tree.proofs.Recovers.{read}
-use Rattle.tree.proofs.Meanings.{upward, next_fits, next_meant, room_kept, lacks_nothing, lacks_branches, lacks_marks}
+use Rattle.tree.proofs.Meanings.{upward, Ready, next_fits, next_meant, room_kept, lacks_nothing, lacks_branches, lacks_marks}
 use Rattle.tree.proofs.all_match.Tree.append.Goals as goal
 
 -- the rules with the new one
@@ -18,12 +18,11 @@ some_none p q = let z : ◌≡◌ {A = ℕ} 0 1 = cc in omega arith
 pub append-self-requires : goal.append-self-requires
 append-self-requires c =
     let x = c.args.self.now in
-    let first = c.first_of.ensures in (
-      (
-        read x.store x.root x.fields,
-        next_fits c.args.ends.now c.requires.proper c.first_of.result.now c.args.number first.first _ _ c.space_with-need.ensures c.room-room.ensures
-            c.if-need-room.false c.if-need-room-2.false c.requires.means,
-      ),
+    let es = c.args.ends.now in
+    let first = c.first_of.ensures in
+    let R : Ready x.store x.root x.fields es c.first_of.result.now c.space_with-need.result c.room-room.result = search rules in
+    (
+      (read x.store x.root x.fields, next_fits R c.args.number c.requires.means),
       (sym first.length, subst (AllByRecursion Upward) (sym first.first) (upward _ c.requires.proper.1)),
     )
 
@@ -46,42 +45,21 @@ pub invariant_of-self : goal.invariant_of-self
 invariant_of-self c =
     let x = c.args.self.now in
     let es = c.args.ends.now in
-    let first = c.first_of.ensures.first in
-    let told = c.space_with-need.ensures in
-    let (u, B) =
-    c.append-self.ensures (read x.store x.root x.fields)
-    (next_fits es c.requires.proper c.first_of.result.now c.args.number first _ _ told c.room-room.ensures c.if-need-room.false c.if-need-room-2.false
-    c.requires.means) in
-    record {
-      rules =
-          ∥∥₁_map c.requires.means
-          (λ p. (
-            more p.0 es,
-            next_meant es c.requires.proper c.first_of.result.now c.args.number first _ _ told c.room-room.ensures c.if-need-room.false
-                c.if-need-room-2.false p.1 p.2 _ _ u B,
-          ));
-    }
+    let R : Ready x.store x.root x.fields es c.first_of.result.now c.space_with-need.result c.room-room.result = search rules in
+    let (u, B) = c.append-self.ensures (read x.store x.root x.fields) (next_fits R c.args.number c.requires.means) in
+    record { rules = ∥∥₁_map c.requires.means (λ p. (more p.0 es, next_meant R c.args.number p.1 p.2 _ _ u B)) }
 
 pub returns : goal.returns
 returns c =
     let x = c.args.self.now in
     let es = c.args.ends.now in
-    let first = c.first_of.ensures.first in
-    let told = c.space_with-need.ensures in
+    let R : Ready x.store x.root x.fields es c.first_of.result.now c.space_with-need.result c.room-room.result = search rules in
+    let (u, B) = c.append-self.ensures (read x.store x.root x.fields) (next_fits R c.args.number c.requires.means) in
     let none : (T : List (List Ends)) → Means x T → lacking x (more T es) ≡ None =
-    λ T e. lacks_nothing x (more T es) _ _ (told T e) c.room-room.ensures c.if-need-room.false c.if-need-room-2.false in
-    let (u, B) =
-    c.append-self.ensures (read x.store x.root x.fields)
-    (next_fits es c.requires.proper c.first_of.result.now c.args.number first _ _ told c.room-room.ensures c.if-need-room.false c.if-need-room-2.false
-    c.requires.means) in
+    λ T e. lacks_nothing x (more T es) _ _ (R.counted T e) R.all R.few R.few_marks in
     record {
       answer = none;
-      granted =
-          λ T e next _. (
-            ∣ next_meant es c.requires.proper c.first_of.result.now c.args.number first _ _ told c.room-room.ensures c.if-need-room.false
-                c.if-need-room-2.false e next _ _ u B ∣₁,
-            λ k z. (B.change.spare k z).1,
-          );
+      granted = λ T e next _. (∣ next_meant R c.args.number e next _ _ u B ∣₁, λ k z. (B.change.spare k z).1);
       refused = λ T n e h. absurd (some_none h (none T e));
       fields = refl;
       room = room_kept x.store c.append-self.new.self x.fields _ u B.change;
