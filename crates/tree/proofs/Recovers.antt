@@ -4,7 +4,7 @@ use Rattle.std.proofs.Math.Logic.{∥∥₁_elim}
 use native.Mathlib.Bridge.{le_prop}
 use native.Mathlib.Nat.{ℕ_set}
 use Rattle.std.proofs.lemmas.Bool.{cond-false, ne_eqb}
-use Rattle.std.specs.List.{AllByRecursion}
+use Rattle.std.specs.List.{AllByRecursion, AllByRecursion-prop}
 use Rattle.shape.specs.Shapes.{Label, piece, rule, branches_of, marks_of, Shape, ShapeSet, bare, part, grown}
 use Rattle.shape.specs.Meaning.{Sound, Proper, Tidy}
 use Rattle.tree.specs.Memory.{look, RecSet, label_of, below_of, next_of}
@@ -58,15 +58,10 @@ holds_prop s d (item at l below rest) x y =
 pub stands_prop : (s : Store) (d : ℕ) (t : Records) → IsProp (Stands s d t)
 stands_prop s d t x y = λ i. record { holds = holds_prop s d t x.holds y.holds i; own = λ k. le_prop (x.own k) (y.own k) i }
 
--- what holds of each element has one proof
-all_prop : {X : Type 0} (P : X → Type 0) → ((x : X) → IsProp (P x)) → (xs : List X) → IsProp (AllByRecursion P xs)
-all_prop P p [] a b = refl
-all_prop P p (x ∷ xs) a b = λ i. (p x a.0 b.0 i, all_prop P p xs a.1 b.1 i)
-
--- so that a rule is proper
+-- that a rule is proper has one proof too
 proper_prop : (d : ℕ) (r : List Ends) → IsProp (Proper d r)
 proper_prop d r a b =
-    λ i. (le_prop a.0 b.0 i, all_prop Sound (λ e x y j. (le_prop x.0 y.0 j, le_prop x.1 y.1 j)) (take d r) a.1 b.1 i)
+    λ i. (le_prop a.0 b.0 i, AllByRecursion-prop Sound (λ e x y j. (le_prop x.0 y.0 j, le_prop x.1 y.1 j)) (take d r) a.1 b.1 i)
 
 -- the size of the tree of some rules
 pub sized : {s : Store} {first d : ℕ} {T : List (List Ends)} (m : Meant s first d T) → (branches_of (shape m.records.0) ≡ s.branches.taken) × (marks_of (shape m.records.0) ≡ s.marks.taken)
@@ -89,7 +84,7 @@ read_tree {s} {first} {d} m =
 pub recovered : {s : Store} {first d : ℕ} {T : List (List Ends)} → ∥ Meant s first d T ∥₁ → Meant s first d T
 recovered {s} {first} {d} {T} e =
     let u : Records = read s first d in
-    let ok : AllByRecursion (Proper d) T = ∥∥₁_elim e (all_prop (Proper d) (proper_prop d) T) (λ m. m.proper) in
+    let ok : AllByRecursion (Proper d) T = ∥∥₁_elim e (AllByRecursion-prop (Proper d) (proper_prop d) T) (λ m. m.proper) in
     let one-tree : IsProp (Stands s d u × (root u ≡ first) × (shape u ≡ grown d T)) =
     λ a b i. (stands_prop s d u a.0 b.0 i, ℕ_set _ _ a.1 b.1 i, ShapeSet _ _ a.2 b.2 i) in
     let tree : Stands s d u × (root u ≡ first) × (shape u ≡ grown d T) =
