@@ -1,7 +1,6 @@
 // The tree of a file's rules: the space that it takes, and the rules that match at each rule's low corner.
-ghost use Rattle.std.specs.Prelude.{◌≡◌, List, [], length};
+ghost use Rattle.std.specs.Prelude.{◌≡◌, [], length};
 ghost use Rattle.routing.specs.Fields.{widths_of};
-ghost use Rattle.routing.specs.declared.ends.Ends.{Ends as Pair};
 ghost use Rattle.tree.specs.Means.{Means};
 
 use decision::kind::Kind;
@@ -53,7 +52,6 @@ pub struct Grown {
 // Appends a file's rules to an empty tree, as far as its space goes.
 fn grow<K: Kind>(tree: &mut Tree<'_>, widths: Widths, file: TableFile<'_, K>) -> Grown
     requires { (Means tree.old []) × (tree.old.fields ≡ length (widths_of widths)) }
-    ensures { (T : List (List Pair)) × Means tree.new T }
 {
     let count = file.count().min(512);
     for rule in 0..count {

@@ -20,8 +20,7 @@ append-self-requires c =
     let x = c.args.self.now in
     let es = c.args.ends.now in
     let first = c.first_of.ensures in
-    let R : Ready x.store x.root x.fields es c.first_of.result.now c.space_with-need.result c.room-room.result = search rules in
-    (
+    let R : Ready x.store x.root x.fields es c.first_of.result.now c.space_with-need.result c.room-room.result = search rules in (
       (read x.store x.root x.fields, next_fits R c.args.number c.requires.means),
       (sym first.length, subst (AllByRecursion Upward) (sym first.first) (upward _ c.requires.proper.1)),
     )
