@@ -1,5 +1,5 @@
 -- What the calls of a tree ask and promise. Assumes nothing.
-use Rattle.std.specs.Prelude.{◌≡◌, ℕ, ◌+◌, List, [], ◌∷◌, ◌++◌, length, take, true, Some, None, Option, IfSome, Result, MatchResult, ◌≢◌}
+use Rattle.std.specs.Prelude.{◌≡◌, ℕ, ◌+◌, List, [], ◌∷◌, ◌++◌, length, take, true, Some, None, Option, IfSome, OnOk, OnErr, Result, MatchResult, ◌≢◌}
 use Rattle.std.specs.List.{AllByRecursion}
 use Rattle.routing.specs.declared.ends.Ends.{Ends}
 use Rattle.routing.specs.Rules.{matching}
@@ -32,6 +32,8 @@ pub record Appends (x x' : Tree) (e : List Ends) (n : ℕ) (r : Result (Unit {0}
   pub answer : (T : List (List Ends)) → Means x T → MatchResult r (λ _. lacking x (T ++ e ∷ []) ≡ None) (λ l. lacking x (T ++ e ∷ []) ≡ Some (lack_number l))
   pub granted : (T : List (List Ends)) → Means x T → n ≡ length T + 1 → lacking x (T ++ e ∷ []) ≡ None → Means x' (T ++ e ∷ []) × Spared x x'
   pub refused : (T : List (List Ends)) (number : ℕ) → Means x T → lacking x (T ++ e ∷ []) ≡ Some number → x' ≡ x
+  pub ok : OnOk r (Next x' (n + 1))
+  pub err : OnErr r (x' ≡ x)
   pub fields : x'.fields ≡ x.fields
   pub room : room_of x' ≡ room_of x
 

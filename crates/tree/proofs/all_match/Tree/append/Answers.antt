@@ -1,7 +1,8 @@
-use Rattle.std.proofs.Common.{◌≡◌, ℕ, List, [], ◌∷◌, ◌++◌, Some, None, Option, sym, refl, subst, arith, rules}
+use Rattle.std.proofs.Common.{◌≡◌, ℕ, List, [], ◌∷◌, ◌++◌, ◌+◌, Some, None, Option, sym, refl, subst, arith, length, length-append, rules}
 use Rattle.std.proofs.Math.Logic.{∥∥₁_map}
 use Rattle.std.specs.List.{AllByRecursion}
 use Rattle.shape.specs.Meaning.{Upward}
+use Rattle.tree.specs.Meant.{Meant}
 use Rattle.tree.specs.Means.{Means, lacking}
 use Rattle.routing.specs.declared.ends.Ends.{Ends}
 use Rattle.tree.proofs.Recovers.{read}
@@ -30,7 +31,7 @@ returns-then-need-room c =
     let x = c.args.self.now in
     let told : (T : List (List Ends)) → Means x T → lacking x (more T c.args.ends.now) ≡ Some 11 =
     λ T e. lacks_branches x (more T c.args.ends.now) _ _ (c.space_with-need.ensures T e) c.room-room.ensures c.if-need-room.true in
-    record { answer = told; granted = λ T e n h. absurd (some_none (told T e) h); refused = λ T n e h. refl; fields = refl; room = refl }
+    record { answer = told; granted = λ T e n h. absurd (some_none (told T e) h); refused = λ T n e h. refl; ok = tt; err = refl; fields = refl; room = refl }
 
 pub returns-then-need-room-2 : goal.returns-then-need-room-2
 returns-then-need-room-2 c =
@@ -38,7 +39,7 @@ returns-then-need-room-2 c =
     let told : (T : List (List Ends)) → Means x T → lacking x (more T c.args.ends.now) ≡ Some 12 =
     λ T e.
     lacks_marks x (more T c.args.ends.now) _ _ (c.space_with-need.ensures T e) c.room-room.ensures c.if-need-room.false c.if-need-room-2.true in
-    record { answer = told; granted = λ T e n h. absurd (some_none (told T e) h); refused = λ T n e h. refl; fields = refl; room = refl }
+    record { answer = told; granted = λ T e n h. absurd (some_none (told T e) h); refused = λ T n e h. refl; ok = tt; err = refl; fields = refl; room = refl }
 
 pub invariant_of-self : goal.invariant_of-self
 invariant_of-self c =
@@ -56,10 +57,16 @@ returns c =
     let (u, B) = c.append-self.ensures (read x.store x.root x.fields) (next_fits R c.args.number c.requires.means) in
     let none : (T : List (List Ends)) → Means x T → lacking x (more T es) ≡ None =
     λ T e. lacks_nothing x (more T es) _ _ (R.counted T e) R.all R.few R.few_marks in
+    let means : (T : List (List Ends)) → Means x T → c.args.number ≡ length T + 1 → ∥ Meant c.append-self.new.self c.append-self.result x.fields (more T es) ∥₁ =
+    λ T e next. ∣ next_meant R c.args.number e next _ _ u B ∣₁ in
     record {
       answer = none;
-      granted = λ T e next _. (∣ next_meant R c.args.number e next _ _ u B ∣₁, λ k z. (B.change.spare k z).1);
+      granted = λ T e next _. (means T e next, λ k z. (B.change.spare k z).1);
       refused = λ T n e h. absurd (some_none h (none T e));
+      ok =
+          ∥∥₁_map c.requires.means
+          (λ p. (more p.0 es, means p.0 p.1 p.2, omega (arith, p.2, length-append p.0 (es ∷ []))));
+      err = tt;
       fields = refl;
       room = room_kept x.store c.append-self.new.self x.fields _ u B.change;
     }
