@@ -2,7 +2,7 @@
 use Rattle.std.proofs.Common.{◌≡◌, ℕ, ◌+◌, ◌<◌, sym, refl, ap, ◌∙◌, subst, arith}
 use Rattle.shape.specs.Shapes.{Label, rule, Shape, bare, part, branches_of, marks_of, add_mark}
 use Rattle.tree.specs.Memory.{rec, Written, Pushed}
-use Rattle.tree.specs.Links.{Records, none, item, shape, root, place, Fits, Became}
+use Rattle.tree.specs.Links.{Records, none, item, shape, place, Fits, Became}
 use Rattle.tree.specs.declared.records.Store.{Store}
 use Rattle.tree.proofs.Frames.{empty, Found, unchanged, topped}
 use Rattle.tree.proofs.Changing.{Walk, inserted, stands, ended}

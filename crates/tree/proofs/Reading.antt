@@ -1,8 +1,7 @@
 -- A loop along a node or a cell that changes nothing. Assumes nothing.
 use Rattle.std.proofs.Common.{◌≡◌, ℕ, ◌+◌, ◌-◌, ◌<◌, ◌≤◌, length, slice_get, Some, sym, refl, ap, ◌∙◌, subst, arith}
 use Rattle.shape.specs.Shapes.{Label, piece, rule, Shape, bare, part, siblings}
-use Rattle.tree.specs.Memory.{live}
-use Rattle.tree.specs.Links.{Records, none, item, shape, root, place, Holds, chain}
+use Rattle.tree.specs.Links.{Records, none, item, shape, root, Holds, chain}
 use Rattle.tree.specs.Reads.{Ordered, Stood}
 use Rattle.tree.specs.declared.records.Store.{Store}
 use Rattle.tree.specs.declared.records.Branch.{Branch}

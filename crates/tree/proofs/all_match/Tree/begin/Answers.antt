@@ -22,8 +22,9 @@ first_cell-requires c =
     let m = recovered c.requires.1 in
     let n = long x.fields c.args.within.now _ c.told-within m.fields.1 c.first_of.ensures in
     record {
-      stood = (m.records.0, subst (λ j. Stood x.store j x.root m.records.0) (sym n) (stood m));
-      few = (omega (arith, m.fields.1, n), omega (arith, m.fields.0, n));
+      tree = (m.records.0, subst (λ j. Stood x.store j x.root m.records.0) (sym n) (stood m));
+      few = omega (arith, m.fields.1, n);
+      some = omega (arith, m.fields.0, n);
     }
 
 pub returns : goal.returns

@@ -13,7 +13,10 @@ pub space_with-requires : goal.space_with-requires
 space_with-requires c =
     let m = recovered c.requires.means.1 in
     let is = c.first_of.ensures in
-    ((m.records.0, stood m), (sym (ap length is ∙ length-take-le _ _ c.requires.proper.0), subst (AllByRecursion Upward) (sym is) (upward _ c.requires.proper.1)))
+    record {
+      tree = (m.records.0, stood m);
+      rule = record { fields = sym (ap length is ∙ length-take-le _ _ c.requires.proper.0); upward = subst (AllByRecursion Upward) (sym is) (upward _ c.requires.proper.1) };
+    }
 
 pub returns : goal.returns
 returns c T e =

@@ -16,7 +16,8 @@ next_cell-requires c =
     record {
       walk =
           (c.requires.walk.0, (c.requires.walk.1.0, subst (λ fs. Reached x.store fs c.args.walk (c.requires.walk.0 ∷ c.requires.walk.1.0)) (sym is) c.requires.walk.1.1));
-      few = (omega (arith, m.fields.1, n), omega (arith, m.fields.0, n));
+      few = omega (arith, m.fields.1, n);
+      some = omega (arith, m.fields.0, n);
     }
 
 pub returns : goal.returns

@@ -23,10 +23,11 @@ append-self-requires c =
     let (T, e, next) = c.requires.means in
     let m = recovered e in
     let is = c.first_of.ensures in
-    let k = enough x (more T c.args.ends.now) _ _ (c.count_with-need.ensures T e) c.room-room.ensures in (
-      (m.records.0, rule_fits m c.args.ends.now c.requires.proper c.first_of.result.now c.args.number is next (k.0 c.if-need-room.false) (k.1 c.if-need-room-2.false)),
-      (sym (ap length is ∙ length-take-le _ _ c.requires.proper.0), subst (AllByRecursion Upward) (sym is) (upward _ c.requires.proper.1)),
-    )
+    let k = enough x (more T c.args.ends.now) _ _ (c.count_with-need.ensures T e) c.room-room.ensures in
+    record {
+      room = (m.records.0, rule_fits m c.args.ends.now c.requires.proper c.first_of.result.now c.args.number is next (k.0 c.if-need-room.false) (k.1 c.if-need-room-2.false));
+      rule = record { fields = sym (ap length is ∙ length-take-le _ _ c.requires.proper.0); upward = subst (AllByRecursion Upward) (sym is) (upward _ c.requires.proper.1) };
+    }
 
 pub returns-then-need-room : goal.returns-then-need-room
 returns-then-need-room c =

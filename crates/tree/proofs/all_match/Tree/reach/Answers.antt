@@ -8,7 +8,7 @@ use Rattle.shape.proofs.Finds.{look_up_right}
 use Rattle.tree.proofs.all_match.Tree.reach.Goals as goal
 
 pub cell-requires : goal.cell-requires
-cell-requires c = let m = recovered c.requires.1 in ((m.records.0, stood m), m.fields.1)
+cell-requires c = let m = recovered c.requires.1 in record { tree = (m.records.0, stood m); few = m.fields.1 }
 
 pub returns : goal.returns
 returns c T e =

@@ -4,10 +4,11 @@ use Rattle.tree.proofs.Changing.{Walk}
 use Rattle.tree.proofs.records.Store.fill_after.Given as goal
 
 abbrev pub invariant-loop-at : goal.invariant-loop-at
-invariant-loop-at l =
-    ((t : Records) → Fits l.initial.self l.left l.first t (tail l.low l.high (shape t))
-    → Walk l.initial.self l.left l.first (tail l.low l.high) t l.self l.at (l.initial.self.branches.taken + l.initial.self.marks.taken) (tail l.want l.high))
-    × (l.want ≤ l.high)
+invariant-loop-at l = record {
+  walk : (t : Records) → Fits l.initial.self l.left l.first t (tail l.span.low l.span.high (shape t))
+      → Walk l.initial.self l.left l.first (tail l.span.low l.span.high) t l.self l.at (l.initial.self.branches.taken + l.initial.self.marks.taken) (tail l.want l.span.high);
+  upward : l.want ≤ l.span.high;
+}
 
 abbrev pub decreases-loop-at : goal.decreases-loop-at
 decreases-loop-at l = chain (l.initial.self.branches.taken + l.initial.self.marks.taken) l.self l.left l.at
