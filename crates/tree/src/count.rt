@@ -17,21 +17,31 @@ fn past(ends: Ends) -> u64
 }
 
 impl Store<'_> {
-    // What the node or cell at `first` takes.
-    pub(crate) fn space_of(&self, left: usize, first: u32) -> Space
-        requires { SomeTree self.now left first }
-        ensures { (t : Records) → Stood self.now left first t → Weighs result (λ p q. weight p q (shape t)) }
+    // What the marks of the cell at `first` take.
+    fn space_of_cell(&self, first: u32) -> Space
+        requires { SomeTree self.now 0 first }
+        ensures { (t : Records) → Stood self.now 0 first t → Weighs result (λ p q. weight p q (shape t)) }
     {
         let mut sum = NOTHING;
         let mut at = first;
-        while at != NONE {
-            if left == 0 {
-                let m = self.marks.get(at);
-                sum = sum.plus(ONE_MARK);
-                at = m.next;
-                continue;
-            }
-            let b = self.branches.get(at);
+        while let Some(m) = self.marks.follow(at) {
+            sum = sum.plus(ONE_MARK);
+            at = m.next;
+        }
+        sum
+    }
+
+    // What the node or cell at `first` takes.
+    fn space_of(&self, left: usize, first: u32) -> Space
+        requires { SomeTree self.now left first }
+        ensures { (t : Records) → Stood self.now left first t → Weighs result (λ p q. weight p q (shape t)) }
+    {
+        if left == 0 {
+            return self.space_of_cell(first);
+        }
+        let mut sum = NOTHING;
+        let mut at = first;
+        while let Some(b) = self.branches.follow(at) {
             sum = sum.plus(ONE_BRANCH).plus(self.space_of(left - 1, b.below));
             at = b.next;
         }
@@ -79,7 +89,7 @@ impl Store<'_> {
         ensures { (t : Records) (i : ℕ) → Stood self.now left first t → Weighs result (λ p q. weight p q (insert rule.now i (shape t))) }
     {
         if left == 0 {
-            return self.space_of(0, first).plus(ONE_MARK);
+            return self.space_of_cell(first).plus(ONE_MARK);
         }
         let ends = rule[0];
         let rest = &rule[1..];
@@ -88,8 +98,7 @@ impl Store<'_> {
         let mut want = u64::from(ends.low);
         let mut sum = NOTHING;
         let mut at = first;
-        while at != NONE {
-            let b = self.branches.get(at);
+        while let Some(b) = self.branches.follow(at) {
             let gap = new.when(want < end.min(u64::from(b.low)));
             let parts = self
                 .outside(left, b, ends)

@@ -18,8 +18,7 @@ impl Store<'_> {
         ensures { Does self.old self.new left first first (cut_at x) }
     {
         let mut at = first;
-        while at != NONE {
-            let b = self.branches.get(at);
+        while let Some(b) = self.branches.follow(at) {
             if b.low < x && x <= b.high {
                 let copy = self.copy_node(left - 1, b.below);
                 let new = self.branches.push(Branch {
@@ -86,10 +85,9 @@ impl Store<'_> {
         requires upward { Upward span }
         ensures { (t : Records) → Stands self.now left t → root t ≡ next → Gap span (shape t) result }
     {
-        if next == NONE {
+        let Some(upper) = self.branches.follow(next) else {
             return Some(span);
-        }
-        let upper = self.branches.get(next);
+        };
         if span.low < upper.low {
             return Some(Ends {
                 high: span.high.min(upper.low - 1),
@@ -124,8 +122,7 @@ impl Store<'_> {
     {
         let mut at = first;
         let mut want = span.low;
-        while at != NONE {
-            let b = self.branches.get(at);
+        while let Some(b) = self.branches.follow(at) {
             if span.high <= b.high {
                 return;
             }
@@ -180,8 +177,7 @@ impl Store<'_> {
         ensures { Does self.old self.new left first first (under ends.low ends.high (insert rest.now i)) }
     {
         let mut at = first;
-        while at != NONE {
-            let b = self.branches.get(at);
+        while let Some(b) = self.branches.follow(at) {
             if !b.is_within(ends) {
                 at = b.next;
                 continue;

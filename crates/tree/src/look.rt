@@ -15,8 +15,7 @@ impl Store<'_> {
         ensures { (d : ℕ) (t : Records) → 0 < d → Stood self.now d first t → (u : Records) × Has self.now (d - 1) result (seek_in value (shape t)) u }
     {
         let mut at = first;
-        while at != NONE {
-            let b = self.branches.get(at);
+        while let Some(b) = self.branches.follow(at) {
             if b.ends().holds(value) {
                 return b.below;
             }

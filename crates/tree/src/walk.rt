@@ -41,8 +41,7 @@ impl Store<'_> {
         let mut k = depth;
         let mut at = first;
         while k < within.len() {
-            if at != NONE {
-                let b = self.branches.get(at);
+            if let Some(b) = self.branches.follow(at) {
                 if !b.is_within(within[k]) {
                     at = b.next;
                     continue;

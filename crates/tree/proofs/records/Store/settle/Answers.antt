@@ -4,13 +4,13 @@ use Rattle.tree.specs.Tours.{Reached}
 use Rattle.tree.proofs.Cells.{there, seen, pass, down, rise, rise_there, ended, arrived}
 use Rattle.tree.proofs.records.Store.settle.Goals as goal
 
-pub get-b-requires : goal.get-b-requires
-get-b-requires c = there (c.loop-k.invariant.walk _ c.requires.walk.1) c.loop-k-test.true c.if-at.true
+pub follow-requires : goal.follow-requires
+follow-requires c = λ ne. there (c.loop-k.invariant.walk _ c.requires.walk.1) c.loop-k-test.true ne
 
 pub loop-k-smaller-then-not-is_within : goal.loop-k-smaller-then-not-is_within
 loop-k-smaller-then-not-is_within c =
     let T = c.loop-k.invariant.walk _ c.requires.walk.1 in
-    (pass T c.loop-k-test.true (seen T c.loop-k-test.true c.if-at.true c.get-b.ensures) (sym c.is_within.ensures ∙ c.if-not-is_within.true)).1
+    (pass T c.loop-k-test.true (seen T c.loop-k-test.true c.in-Some.ensures.more c.in-Some.ensures.found) (sym c.is_within.ensures ∙ c.if-not-is_within.true)).1
 
 pub loop-k-preserved-then-not-is_within : goal.loop-k-preserved-then-not-is_within
 loop-k-preserved-then-not-is_within c =
@@ -18,29 +18,29 @@ loop-k-preserved-then-not-is_within c =
       walk =
           λ cs S.
           let T = c.loop-k.invariant.walk cs S in
-          (pass T c.loop-k-test.true (seen T c.loop-k-test.true c.if-at.true c.get-b.ensures) (sym c.is_within.ensures ∙ c.if-not-is_within.true)).0;
+          (pass T c.loop-k-test.true (seen T c.loop-k-test.true c.in-Some.ensures.more c.in-Some.ensures.found) (sym c.is_within.ensures ∙ c.if-not-is_within.true)).0;
       path = c.loop-k.invariant.path;
       corner = c.loop-k.invariant.corner;
       clear = c.loop-k.invariant.clear;
       depth = c.loop-k.invariant.depth;
     }
 
-pub loop-k-smaller-then-at : goal.loop-k-smaller-then-at
-loop-k-smaller-then-at c =
+pub loop-k-smaller-in-Some : goal.loop-k-smaller-in-Some
+loop-k-smaller-in-Some c =
     let lt = c.loop-k-test.true in
     let I = c.loop-k.invariant in
     let T = I.walk _ c.requires.walk.1 in
-    (down T lt (seen T lt c.if-at.true c.get-b.ensures) (omega (arith, I.path, c.requires.few)) (omega (arith, I.corner, c.requires.few)) (sym c.is_within.ensures ∙ c.if-not-is_within.false)).1
+    (down T lt (seen T lt c.in-Some.ensures.more c.in-Some.ensures.found) (omega (arith, I.path, c.requires.few)) (omega (arith, I.corner, c.requires.few)) (sym c.is_within.ensures ∙ c.if-not-is_within.false)).1
 
-pub loop-k-preserved-then-at : goal.loop-k-preserved-then-at
-loop-k-preserved-then-at c =
+pub loop-k-preserved-in-Some : goal.loop-k-preserved-in-Some
+loop-k-preserved-in-Some c =
     let lt = c.loop-k-test.true in
     let I = c.loop-k.invariant in
     record {
       walk =
           λ cs S.
           let T = I.walk cs S in
-          (down T lt (seen T lt c.if-at.true c.get-b.ensures) (omega (arith, I.path, c.requires.few)) (omega (arith, I.corner, c.requires.few)) (sym c.is_within.ensures ∙ c.if-not-is_within.false)).0;
+          (down T lt (seen T lt c.in-Some.ensures.more c.in-Some.ensures.found) (omega (arith, I.path, c.requires.few)) (omega (arith, I.corner, c.requires.few)) (sym c.is_within.ensures ∙ c.if-not-is_within.false)).0;
       path = length-set _ _ _ ∙ I.path;
       corner = length-set _ _ _ ∙ I.corner;
       clear = drop-set-lt _ _ _ _ lt ∙ I.clear;
@@ -49,19 +49,19 @@ loop-k-preserved-then-at c =
 
 pub returns-then-k-eq0 : goal.returns-then-k-eq0
 returns-then-k-eq0 c cs S =
-    subst (Reached c.args.self.now c.args.within.now _) (sym (ended (c.loop-k.invariant.walk cs S) c.if-k-eq0.true c.requires.some c.if-at.false)) refl
+    subst (Reached c.args.self.now c.args.within.now _) (sym (ended (c.loop-k.invariant.walk cs S) c.if-k-eq0.true c.requires.some c.in_default.ensures.end)) refl
 
 pub get-at-requires : goal.get-at-requires
 get-at-requires c = rise_there (c.loop-k.invariant.walk _ c.requires.walk.1) c.loop-k-test.true (omega (arith, c.if-k-eq0.false))
 
 pub loop-k-smaller : goal.loop-k-smaller
 loop-k-smaller c =
-    (rise (c.loop-k.invariant.walk _ c.requires.walk.1) c.loop-k-test.true (omega (arith, c.if-k-eq0.false)) c.if-at.false c.get-at.ensures).1
+    (rise (c.loop-k.invariant.walk _ c.requires.walk.1) c.loop-k-test.true (omega (arith, c.if-k-eq0.false)) c.in_default.ensures.end c.get-at.ensures).1
 
 pub loop-k-preserved : goal.loop-k-preserved
 loop-k-preserved c =
     record {
-      walk = λ cs S. (rise (c.loop-k.invariant.walk cs S) c.loop-k-test.true (omega (arith, c.if-k-eq0.false)) c.if-at.false c.get-at.ensures).0;
+      walk = λ cs S. (rise (c.loop-k.invariant.walk cs S) c.loop-k-test.true (omega (arith, c.if-k-eq0.false)) c.in_default.ensures.end c.get-at.ensures).0;
       path = c.loop-k.invariant.path;
       corner = c.loop-k.invariant.corner;
       clear = c.loop-k.invariant.clear;
