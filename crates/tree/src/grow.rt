@@ -129,8 +129,6 @@ impl Store<'_> {
             want = want.max(b.high + 1);
             if let Some(gap) = self.gap_before(left, b.next, Ends { low: want, ..span }) {
                 self.put_after(at, gap);
-                at = b.next;
-                continue;
             }
             at = b.next;
         }
@@ -178,12 +176,10 @@ impl Store<'_> {
     {
         let mut at = first;
         while let Some(b) = self.branches.follow(at) {
-            if !b.is_within(ends) {
-                at = b.next;
-                continue;
+            if b.is_within(ends) {
+                let below = self.append(left - 1, b.below, rest, i);
+                self.branches.set(at, Branch { below, ..b });
             }
-            let below = self.append(left - 1, b.below, rest, i);
-            self.branches.set(at, Branch { below, ..b });
             at = b.next;
         }
     }

@@ -41,27 +41,27 @@ impl Store<'_> {
         let mut k = depth;
         let mut at = first;
         while k < within.len() {
-            if let Some(b) = self.branches.follow(at) {
-                if !b.is_within(within[k]) {
-                    at = b.next;
-                    continue;
+            match self.branches.follow(at) {
+                Some(b) if b.is_within(within[k]) => {
+                    path[k] = at;
+                    corner[k] = b.low;
+                    k += 1;
+                    at = b.below;
                 }
-                path[k] = at;
-                corner[k] = b.low;
-                k += 1;
-                at = b.below;
-                continue;
+                Some(b) => at = b.next,
+                None if k == 0 => {
+                    return Walk {
+                        found: false,
+                        corner: [0; 8],
+                        marks: NONE,
+                        path,
+                    };
+                }
+                None => {
+                    k -= 1;
+                    at = self.branches.get(path[k]).next;
+                }
             }
-            if k == 0 {
-                return Walk {
-                    found: false,
-                    corner: [0; 8],
-                    marks: NONE,
-                    path,
-                };
-            }
-            k -= 1;
-            at = self.branches.get(path[k]).next;
         }
         Walk {
             found: true,

@@ -83,47 +83,47 @@ descend-loop-b-init t c = start _ _ _ _
 pub descend-follow-requires : goal.descend-follow-requires
 descend-follow-requires t c = λ ne. there_branch (c.loop-b.invariant _ c.requires.room.1) ne c.requires.branches
 
-pub descend-loop-b-smaller-then-not-is_within : goal.descend-loop-b-smaller-then-not-is_within
-descend-loop-b-smaller-then-not-is_within t c =
+pub descend-loop-b-smaller : goal.descend-loop-b-smaller
+descend-loop-b-smaller t c =
     let W = c.loop-b.invariant _ c.requires.room.1 in
     let F = see_branch W c.in-Some.ensures.more c.requires.branches c.in-Some.ensures.found in
     less W F _ (stands W F).holds.3
 
-pub descend-loop-b-preserved-then-not-is_within : goal.descend-loop-b-preserved-then-not-is_within
-descend-loop-b-preserved-then-not-is_within t c tree K =
+pub descend-loop-b-preserved : goal.descend-loop-b-preserved
+descend-loop-b-preserved t c tree K =
     let W = c.loop-b.invariant tree K in
     let F = see_branch W c.in-Some.ensures.more c.requires.branches c.in-Some.ensures.found in
-    pass W F _ (under_past c.args.ends.low c.args.ends.high c.args.rest.now c.args.i W F (sym c.is_within.ensures ∙ c.if-not-is_within.true))
+    pass W F _ (under_past c.args.ends.low c.args.ends.high c.args.rest.now c.args.i W F (sym c.is_within.ensures ∙ c.if-is_within.false))
 
 pub descend-append-below-requires : goal.descend-append-below-requires
 descend-append-below-requires t c =
     let W = c.loop-b.invariant _ c.requires.room.1 in
     let F = see_branch W c.in-Some.ensures.more c.requires.branches c.in-Some.ensures.found in
-    let ins = sym c.is_within.ensures ∙ c.if-not-is_within.false in
+    let ins = sym c.is_within.ensures ∙ c.if-is_within.true in
     (omega (arith, c.decreases, c.requires.branches), ((F.below, below_fits c.args.ends.low c.args.ends.high c.args.rest.now c.args.i W F ins), c.requires.rest))
 
 pub descend-set-requires : goal.descend-set-requires
 descend-set-requires t c =
     let W = c.loop-b.invariant _ c.requires.room.1 in
     let F = see_branch W c.in-Some.ensures.more c.requires.branches c.in-Some.ensures.found in
-    let ins = sym c.is_within.ensures ∙ c.if-not-is_within.false in
+    let ins = sym c.is_within.ensures ∙ c.if-is_within.true in
     let (u, B) = c.append-below.ensures F.below (below_fits c.args.ends.low c.args.ends.high c.args.rest.now c.args.i W F ins) in
     inside_branch c.append-below.new.self c.loop-b.at (omega (arith, (stands W F).holds.0)) (alive_after c.args.ends.low c.args.ends.high c.args.rest.now c.args.i W F ins _ _ u B c.requires.branches)
 
-pub descend-loop-b-smaller : goal.descend-loop-b-smaller
-descend-loop-b-smaller t c =
+pub descend-loop-b-smaller-then-is_within : goal.descend-loop-b-smaller-then-is_within
+descend-loop-b-smaller-then-is_within t c =
     let W = c.loop-b.invariant _ c.requires.room.1 in
     let F = see_branch W c.in-Some.ensures.more c.requires.branches c.in-Some.ensures.found in
-    let ins = sym c.is_within.ensures ∙ c.if-not-is_within.false in
+    let ins = sym c.is_within.ensures ∙ c.if-is_within.true in
     let (u, B) = c.append-below.ensures F.below (below_fits c.args.ends.low c.args.ends.high c.args.rest.now c.args.i W F ins) in
     let Q = written_branch _ _ c.args.left _ _ (λ z. omega (arith, c.requires.branches)) (wrote_branch _ _ _ _ (omega (arith, (stands W F).holds.0)) c.set.ensures) in
     less W F _ (turn_change c.args.ends.low c.args.ends.high c.args.rest.now c.args.i W F ins _ _ _ u B Q).holds.3
 
-pub descend-loop-b-preserved : goal.descend-loop-b-preserved
-descend-loop-b-preserved t c tree K =
+pub descend-loop-b-preserved-then-is_within : goal.descend-loop-b-preserved-then-is_within
+descend-loop-b-preserved-then-is_within t c tree K =
     let W = c.loop-b.invariant tree K in
     let F = see_branch W c.in-Some.ensures.more c.requires.branches c.in-Some.ensures.found in
-    let ins = sym c.is_within.ensures ∙ c.if-not-is_within.false in
+    let ins = sym c.is_within.ensures ∙ c.if-is_within.true in
     let (u, B) = c.append-below.ensures F.below (below_fits c.args.ends.low c.args.ends.high c.args.rest.now c.args.i W F ins) in
     let Q = written_branch _ _ c.args.left _ _ (λ z. omega (arith, c.requires.branches)) (wrote_branch _ _ _ _ (omega (arith, (stands W F).holds.0)) c.set.ensures) in
     turned c.args.ends.low c.args.ends.high c.args.rest.now c.args.i W F ins _ _ _ u B Q

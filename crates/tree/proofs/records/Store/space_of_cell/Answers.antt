@@ -1,4 +1,4 @@
-use Rattle.std.proofs.Common.{◌+◌, refl, ap, arith}
+use Rattle.std.proofs.Common.{refl, ap, arith}
 use Rattle.tree.specs.Links.{shape}
 use Rattle.tree.specs.Reads.{weight}
 use Rattle.tree.proofs.Reading.{begin, stays_mark, seen_mark, ended, after, less, no_below}
