@@ -95,6 +95,13 @@ Can s d first g = (t : Records) × Fits s d first t (g (shape t))
 abbrev pub Does : (s s' : Store) (d first r : ℕ) → (Shape → Shape) → Type 0
 Does s s' d first r g = (t : Records) → Fits s d first t (g (shape t)) → (u : Records) × Became s s' d t (g (shape t)) r u
 
+-- The same of a node, with any number of fields left.
+abbrev pub CanNode : Store → (first : ℕ) → (Shape → Shape) → Type 0
+CanNode s first g = (d : ℕ) × (0 < d) × Can s d first g
+
+abbrev pub DoesNode : (s s' : Store) (first r : ℕ) → (Shape → Shape) → Type 0
+DoesNode s s' first r g = (d : ℕ) → 0 < d → Does s s' d first r g
+
 -- the gaps from `want` to `high`, but for the one before the first branch
 abbrev pub tail : (want high : ℕ) → Shape → Shape
 tail want high bare = bare

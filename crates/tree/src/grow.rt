@@ -2,7 +2,7 @@
 ghost use Rattle.std.specs.Prelude.{◌≡◌, ℕ, ◌-◌, ◌<◌, length};
 ghost use Rattle.shape.specs.Shapes.{cut_at, add_mark, under, cut_above, gaps, ready, insert};
 ghost use Rattle.shape.specs.Meaning.{Upward};
-ghost use Rattle.tree.specs.Links.{Records, shape, root, Stands, Can, Does, tail, Gap, Inserted, Intervals};
+ghost use Rattle.tree.specs.Links.{Records, shape, root, Stands, Can, Does, CanNode, DoesNode, tail, Gap, Inserted, Intervals};
 ghost use Rattle.tree.specs.Pools.{space};
 ghost use Rattle.tree.specs.declared.records.Store.{Store as AnyStore};
 
@@ -79,11 +79,10 @@ impl Store<'_> {
     }
 
     // The gap of a span before the branches that begin at `next`; none, where they begin with the span or below.
-    fn gap_before(&self, left: usize, next: u32, span: Ends) -> Option<Ends>
-        requires branches { 0 < left }
-        requires stands { (t : Records) × Stands self.now left t × (root t ≡ next) }
+    fn gap_before(&self, next: u32, span: Ends) -> Option<Ends>
+        requires node { (d : ℕ) × (t : Records) × (0 < d) × Stands self.now d t × (root t ≡ next) }
         requires upward { Upward span }
-        ensures { (t : Records) → Stands self.now left t → root t ≡ next → Gap span (shape t) result }
+        ensures { (d : ℕ) (t : Records) → 0 < d → Stands self.now d t → root t ≡ next → Gap span (shape t) result }
     {
         let Some(upper) = self.branches.follow(next) else {
             return Some(span);
@@ -114,11 +113,10 @@ impl Store<'_> {
     }
 
     // Fills the gaps of a span that come after the first branch of the node at `first`.
-    fn fill_after(&mut self, left: usize, first: u32, span: Ends)
-        requires branches { 0 < left }
-        requires room { Can self.old left first (tail span.low span.high) }
+    fn fill_after(&mut self, first: u32, span: Ends)
+        requires room { CanNode self.old first (tail span.low span.high) }
         requires upward { Upward span }
-        ensures { Does self.old self.new left first first (tail span.low span.high) }
+        ensures { DoesNode self.old self.new first first (tail span.low span.high) }
     {
         let mut at = first;
         let mut want = span.low;
@@ -127,7 +125,7 @@ impl Store<'_> {
                 return;
             }
             want = want.max(b.high + 1);
-            if let Some(gap) = self.gap_before(left, b.next, Ends { low: want, ..span }) {
+            if let Some(gap) = self.gap_before(b.next, Ends { low: want, ..span }) {
                 self.put_after(at, gap);
             }
             at = b.next;
@@ -135,14 +133,13 @@ impl Store<'_> {
     }
 
     // Fills the gaps of a span in the node at `first`. The answer is where it starts then.
-    fn fill(&mut self, left: usize, first: u32, span: Ends) -> u32
-        requires branches { 0 < left }
-        requires room { Can self.old left first (gaps span.low span.high) }
+    fn fill(&mut self, first: u32, span: Ends) -> u32
+        requires room { CanNode self.old first (gaps span.low span.high) }
         requires upward { Upward span }
-        ensures { Does self.old self.new left first result (gaps span.low span.high) }
+        ensures { DoesNode self.old self.new first result (gaps span.low span.high) }
     {
-        let front = self.gap_before(left, first, span);
-        self.fill_after(left, first, span);
+        let front = self.gap_before(first, span);
+        self.fill_after(first, span);
         match front {
             Some(gap) => self.branches.push(Branch {
                 low: gap.low,
@@ -163,7 +160,7 @@ impl Store<'_> {
     {
         self.cut(left, first, ends.low);
         self.cut_above(left, first, ends.high);
-        self.fill(left, first, ends)
+        self.fill(first, ends)
     }
 
     // Appends the rest of the rule `i`, below each branch of the node at `first` that lies within `ends`.

@@ -6,16 +6,16 @@ use Rattle.tree.proofs.records.Store.gap_before.Goals as goal
 pub follow-requires : goal.follow-requires
 follow-requires c =
     λ ne.
-    let (t, S, e) = c.requires.stands in
-    branch_inside c.args.self.now c.args.left c.args.next t e ne S (λ z. omega (arith, c.requires.branches))
+    let (d, t, pos, S, e) = c.requires.node in
+    branch_inside c.args.self.now d c.args.next t e ne S (λ z. omega (arith, pos, z))
 
 pub returns-in_default : goal.returns-in_default
-returns-in_default c t S e = gap_end c.args.self.now c.args.left c.args.span t S (e ∙ c.in_default.ensures.end) c.requires.upward
+returns-in_default c d t pos S e = gap_end c.args.self.now d c.args.span t S (e ∙ c.in_default.ensures.end) c.requires.upward
 
 pub returns-then-span-upper : goal.returns-then-span-upper
-returns-then-span-upper c t S e =
-    gap_there c.args.self.now c.args.left c.args.next c.args.span t S e c.in-Some.ensures.more c.requires.branches _ c.in-Some.ensures.found c.requires.upward c.min.result c.min.ensures c.if-span-upper.true
+returns-then-span-upper c d t pos S e =
+    gap_there c.args.self.now d c.args.next c.args.span t S e c.in-Some.ensures.more pos _ c.in-Some.ensures.found c.requires.upward c.min.result c.min.ensures c.if-span-upper.true
 
 pub returns : goal.returns
-returns c t S e =
-    no_gap c.args.self.now c.args.left c.args.next c.args.span t S e c.in-Some.ensures.more c.requires.branches _ c.in-Some.ensures.found c.requires.upward c.if-span-upper.false
+returns c d t pos S e =
+    no_gap c.args.self.now d c.args.next c.args.span t S e c.in-Some.ensures.more pos _ c.in-Some.ensures.found c.requires.upward c.if-span-upper.false

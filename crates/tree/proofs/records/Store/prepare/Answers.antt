@@ -40,7 +40,7 @@ fill-requires c =
     let (t₁, A) = c.cut.ensures t (ahead cut later _ _ _ t (later_grows c.args.ends.low c.args.ends.high) K) in
     let K₁ = onward cut later _ _ _ _ _ t t₁ K A in
     let (t₂, B) = c.cut_above.ensures t₁ (ahead above fill _ _ _ t₁ (gaps_grows c.args.ends.low c.args.ends.high) K₁) in
-    record { branches = c.requires.branches; room = (t₂, onward above fill _ _ _ _ _ t₁ t₂ K₁ B); upward = c.requires.upward }
+    record { room = (c.args.left, c.requires.branches, (t₂, onward above fill _ _ _ _ _ t₁ t₂ K₁ B)); upward = c.requires.upward }
 
 pub returns : goal.returns
 returns c t K =
@@ -51,5 +51,5 @@ returns c t K =
     let (t₁, A) = c.cut.ensures t (ahead cut later _ _ _ t (later_grows c.args.ends.low c.args.ends.high) K) in
     let K₁ = onward cut later _ _ _ _ _ t t₁ K A in
     let (t₂, B) = c.cut_above.ensures t₁ (ahead above fill _ _ _ t₁ (gaps_grows c.args.ends.low c.args.ends.high) K₁) in
-    let (t₃, C) = c.fill.ensures t₂ (onward above fill _ _ _ _ _ t₁ t₂ K₁ B) in
+    let (t₃, C) = c.fill.ensures c.args.left c.requires.branches t₂ (onward above fill _ _ _ _ _ t₁ t₂ K₁ B) in
     (t₃, chained cut later _ _ _ _ _ _ t t₁ t₃ A (chained above fill _ _ _ _ _ _ t₁ t₂ t₃ B C))
