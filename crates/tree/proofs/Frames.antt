@@ -1,5 +1,5 @@
 -- Links in a memory that changes elsewhere. Assumes nothing.
-use Rattle.std.proofs.Common.{◌≡◌, ℕ, zero, suc, ◌+◌, ◌-◌, ◌<◌, ◌≤◌, length, slice_get, Some, sym, refl, ap, ◌∙◌, subst, one-add, arith}
+use Rattle.std.proofs.Common.{◌≡◌, ℕ, zero, suc, ◌+◌, ◌-◌, ◌<◌, ◌≤◌, cond, eqb, length, slice_get, Some, sym, refl, ap, ◌∙◌, subst, one-add, arith}
 use Rattle.std.proofs.lemmas.Bool.{cond-false, ne_eqb}
 use Rattle.shape.specs.Shapes.{Label, piece, rule, Shape, part, branches_of, marks_of, siblings, bare}
 use Rattle.tree.specs.Memory.{rec, next_of, live, look, Pushed}
@@ -87,6 +87,14 @@ chain_is s d (item at l below rest) (suc n) h le =
     cond-false _ _ _ (ne_eqb at 0xffff_ffff (λ e. omega (arith, h.0)))
     ∙ ap suc (ap (λ r. chain n s d (next_of r)) h.1 ∙ chain_is s d rest n h.3 (omega arith))
     ∙ sym (one-add (siblings (shape rest)))
+
+-- in any node the links are those of branches
+pub chain_branch : (n : ℕ) (s : Store) (d at : ℕ) → 0 < d → chain n s d at ≡ chain n s 1 at
+chain_branch zero s d at pos = refl
+chain_branch (suc n) s d at pos =
+    let p : place d at ≡ place 1 at = place_branch d at (λ z. omega arith) ∙ sym (place_branch 1 at (λ z. omega arith)) in
+    ap (λ i. cond (eqb at 0xffff_ffff) 0 (suc (chain n s d (next_of (look s i))))) p
+    ∙ ap (λ m. cond (eqb at 0xffff_ffff) 0 (suc m)) (chain_branch n s d (next_of (look s (place 1 at))) pos)
 
 -- a node has no more records than its tree
 pub few : (t : Shape) → siblings t ≤ branches_of t + marks_of t

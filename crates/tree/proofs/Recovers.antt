@@ -9,7 +9,7 @@ use Rattle.shape.specs.Shapes.{Label, piece, rule, branches_of, marks_of, Shape,
 use Rattle.shape.specs.Meaning.{Sound, Proper, Tidy}
 use Rattle.tree.specs.Memory.{look, RecSet, label_of, below_of, next_of}
 use Rattle.tree.specs.Links.{Records, none, item, shape, root, place, Holds, Stands}
-use Rattle.tree.specs.Reads.{Ordered, Stood}
+use Rattle.tree.specs.Reads.{Ordered, Stood, SomeTree}
 use Rattle.tree.specs.Meant.{Meant, SomeRules}
 use Rattle.tree.specs.declared.records.Store.{Store}
 use Rattle.routing.specs.declared.ends.Ends.{Ends}
@@ -141,7 +141,7 @@ pub few_fields : {s : Store} {first d : ℕ} → SomeRules s first d → (1 ≤ 
 few_fields e = ∥∥₁_elim e (λ a b i. (le_prop a.0 b.0 i, le_prop a.1 b.1 i)) (λ p. p.1.fields)
 
 -- and records that stand in order
-pub some_stood : {s : Store} {first d : ℕ} → SomeRules s first d → (t : Records) × Stood s d first t
-some_stood {s} {first} {d} e =
+pub some_tree : {s : Store} {first d : ℕ} → SomeRules s first d → SomeTree s d first
+some_tree {s} {first} {d} e =
     let u : Records = read s first d in
     (u, ∥∥₁_elim e (stood_prop s d first u) (λ p. subst (Stood s d first) (read_tree p.1) (stood p.1)))

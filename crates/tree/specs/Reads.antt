@@ -18,6 +18,9 @@ pub record Stood (s : Store) (d first : ℕ) (t : Records) : Type 0 where
   pub steps : branches_of (shape t) + marks_of (shape t) ≤ s.branches.taken + s.marks.taken
   pub order : Ordered 0 (shape t)
 
+abbrev pub SomeTree : Store → (d first : ℕ) → Type 0
+SomeTree s d first = (t : Records) × Stood s d first t
+
 -- what a shape takes, with p for a branch and q for a mark
 abbrev pub label_weight : (p q : ℕ) → Label → ℕ
 label_weight p q (piece a b) = p

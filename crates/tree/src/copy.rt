@@ -31,7 +31,8 @@ impl Store<'_> {
     // A copy, in new records, of the branch or mark at `at` and what is below it; nothing follows it.
     #[cycle(copy_branch_copy_node)]
     pub(crate) fn copy_branch(&mut self, left: usize, at: u32) -> u32
-        requires { (((t : Records) × Copiable self.old left at t)) × ((at ≢ 0xffff_ffff)) }
+        requires linked { at ≢ 0xffff_ffff }
+        requires tree { (t : Records) × Copiable self.old left at t }
         ensures { (l : Label) (below rest : Records) → Copiable self.old left at (item at l below rest) → (u : Records) × CopiedOne self.old self.new left l below result u }
     {
         if left == 0 {

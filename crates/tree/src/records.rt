@@ -1,7 +1,10 @@
 // The records of a tree.
 ghost use Rattle.std.specs.Prelude.{◌≡◌};
+ghost use Rattle.shape.specs.Shapes.{piece};
+ghost use Rattle.shape.specs.Meaning.{within};
 
 use crate::pool::Pool;
+use routing::ends::Ends;
 
 // A branch of a node: its interval, what is below it, and the next branch of the node. Links are 32 bits wide, and `NONE` leads nowhere,
 // so that a record takes the caller 16 bytes.
@@ -11,6 +14,23 @@ pub struct Branch {
     pub high: u32,
     pub below: u32,
     pub next: u32,
+}
+
+impl Branch {
+    pub(crate) fn ends(self) -> Ends
+        ensures { result ≡ record { low = self.low; high = self.high } }
+    {
+        Ends {
+            low: self.low,
+            high: self.high,
+        }
+    }
+
+    pub(crate) fn is_within(self, ends: Ends) -> bool
+        ensures { result ≡ within ends (piece self.low self.high) }
+    {
+        ends.low <= self.low && self.high <= ends.high
+    }
 }
 
 // A mark of a cell: the number of a rule, and the next mark of the cell.

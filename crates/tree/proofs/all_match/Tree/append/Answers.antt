@@ -1,4 +1,4 @@
-use Rattle.std.proofs.Common.{◌≡◌, ℕ, List, [], ◌∷◌, ◌++◌, ◌+◌, Some, None, Option, sym, refl, subst, arith, length, length-append, rules}
+use Rattle.std.proofs.Common.{◌≡◌, List, [], ◌∷◌, ◌++◌, ◌+◌, Some, None, sym, refl, subst, arith, length, length-append, rules}
 use Rattle.std.proofs.Math.Logic.{∥∥₁_map}
 use Rattle.std.specs.List.{AllByRecursion}
 use Rattle.shape.specs.Meaning.{Upward}
@@ -13,25 +13,22 @@ use Rattle.tree.proofs.all_match.Tree.append.Goals as goal
 abbrev more : List (List Ends) → List Ends → List (List Ends)
 more T e = T ++ e ∷ []
 
-some_none : {n : ℕ} {o : Option ℕ} → o ≡ Some n → o ≡ None → ⊥
-some_none p q = let z : ◌≡◌ {A = ℕ} 0 1 = cc in omega arith
-
 pub append-self-requires : goal.append-self-requires
 append-self-requires c =
     let x = c.args.self.now in
     let es = c.args.ends.now in
     let first = c.first_of.ensures in
-    let R : Ready x.store x.root x.fields es c.first_of.result.now c.space_with-need.result c.room-room.result = search rules in (
-      (read x.store x.root x.fields, next_fits R c.args.number c.requires.means),
-      (sym first.length, subst (AllByRecursion Upward) (sym first.first) (upward _ c.requires.proper.1)),
-    )
+    let R : Ready x.store x.root x.fields es c.first_of.result.now c.space_with-need.result c.room-room.result = search rules in record {
+      room = (read x.store x.root x.fields, next_fits R c.args.number c.requires.means);
+      rule = record { fields = sym first.length; upward = subst (AllByRecursion Upward) (sym first.first) (upward _ c.requires.proper.1) };
+    }
 
 pub returns-then-need-room : goal.returns-then-need-room
 returns-then-need-room c =
     let x = c.args.self.now in
     let told : (T : List (List Ends)) → Means x T → lacking x (more T c.args.ends.now) ≡ Some 11 =
     λ T e. lacks_branches x (more T c.args.ends.now) _ _ (c.space_with-need.ensures T e) c.room-room.ensures c.if-need-room.true in
-    record { answer = told; granted = λ T e n h. absurd (some_none (told T e) h); refused = λ T n e h. refl; ok = tt; err = refl; fields = refl; room = refl }
+    record { answer = told; granted = λ T e n h. absurd (cc (told T e)); refused = λ T n e h. refl; ok = tt; err = refl; fields = refl; room = refl }
 
 pub returns-then-need-room-2 : goal.returns-then-need-room-2
 returns-then-need-room-2 c =
@@ -39,7 +36,7 @@ returns-then-need-room-2 c =
     let told : (T : List (List Ends)) → Means x T → lacking x (more T c.args.ends.now) ≡ Some 12 =
     λ T e.
     lacks_marks x (more T c.args.ends.now) _ _ (c.space_with-need.ensures T e) c.room-room.ensures c.if-need-room.false c.if-need-room-2.true in
-    record { answer = told; granted = λ T e n h. absurd (some_none (told T e) h); refused = λ T n e h. refl; ok = tt; err = refl; fields = refl; room = refl }
+    record { answer = told; granted = λ T e n h. absurd (cc (told T e)); refused = λ T n e h. refl; ok = tt; err = refl; fields = refl; room = refl }
 
 pub invariant_of-self : goal.invariant_of-self
 invariant_of-self c =
@@ -62,7 +59,7 @@ returns c =
     record {
       answer = none;
       granted = λ T e next _. (means T e next, λ k z. (B.change.spare k z).1);
-      refused = λ T n e h. absurd (some_none h (none T e));
+      refused = λ T n e h. absurd (cc (none T e));
       ok =
           ∥∥₁_map c.requires.means
           (λ p. (more p.0 es, means p.0 p.1 p.2, omega (arith, p.2, length-append p.0 (es ∷ []))));

@@ -17,7 +17,8 @@ next_cell-requires c =
     record {
       walk =
           (c.requires.0, (c.requires.1.0, subst (λ fs. Reached x.store fs c.args.walk (c.requires.0 ∷ c.requires.1.0)) (sym is) c.requires.1.1));
-      few = (omega (arith, few.1, n), omega (arith, few.0, n));
+      few = omega (arith, few.1, n);
+      some = omega (arith, few.0, n);
     }
 
 pub returns : goal.returns

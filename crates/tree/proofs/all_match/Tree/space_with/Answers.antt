@@ -1,7 +1,7 @@
 use Rattle.std.proofs.Common.{◌+◌, length, sym, refl, subst}
 use Rattle.std.specs.List.{AllByRecursion}
 use Rattle.shape.specs.Meaning.{Upward}
-use Rattle.tree.proofs.Recovers.{recovered, stood, few_fields, some_stood}
+use Rattle.tree.proofs.Recovers.{recovered, stood, few_fields, some_tree}
 use Rattle.tree.proofs.Meanings.{upward, need_is}
 use Rattle.tree.proofs.all_match.Tree.space_with.Goals as goal
 
@@ -11,7 +11,10 @@ first_of-requires c = (few_fields c.args.self.now.rules).1
 pub space_with-requires : goal.space_with-requires
 space_with-requires c =
     let first = c.first_of.ensures in
-    (some_stood c.args.self.now.rules, (sym first.length, subst (AllByRecursion Upward) (sym first.first) (upward _ c.requires.1)))
+    record {
+      tree = some_tree c.args.self.now.rules;
+      rule = record { fields = sym first.length; upward = subst (AllByRecursion Upward) (sym first.first) (upward _ c.requires.1) };
+    }
 
 pub returns : goal.returns
 returns c T e =

@@ -9,28 +9,28 @@ use Rattle.tree.proofs.records.Store.+copy_branch_copy_node.Goals as goal
 
 pub copy_branch-get-m-requires : goal.copy_branch-get-m-requires
 copy_branch-get-m-requires t c =
-    let K = c.requires.0.1 in mark_inside _ _ _ _ K.from c.requires.1 K.stands c.if-left-eq0.true
+    let K = c.requires.tree.1 in mark_inside _ _ _ _ K.from c.requires.linked K.stands c.if-left-eq0.true
 
 pub copy_branch-push-requires : goal.copy_branch-push-requires
 copy_branch-push-requires t c =
-    let K = c.requires.0.1 in
-    let F = found_mark c.args.self.now _ _ _ K.from c.requires.1 K.stands.holds c.if-left-eq0.true c.get-m.ensures in
+    let K = c.requires.tree.1 in
+    let F = found_mark c.args.self.now _ _ _ K.from c.requires.linked K.stands.holds c.if-left-eq0.true c.get-m.ensures in
     omega (arith, K.room_marks, ap (λ t. marks_of (shape t)) F.is)
 
 pub copy_branch-get-b-requires : goal.copy_branch-get-b-requires
 copy_branch-get-b-requires t c =
-    let K = c.requires.0.1 in branch_inside _ _ _ _ K.from c.requires.1 K.stands c.if-left-eq0.false
+    let K = c.requires.tree.1 in branch_inside _ _ _ _ K.from c.requires.linked K.stands c.if-left-eq0.false
 
 pub copy_branch-copy_node-below-requires : goal.copy_branch-copy_node-below-requires
 copy_branch-copy_node-below-requires t c =
-    let K = c.requires.0.1 in
-    let F = found_branch c.args.self.now _ _ _ K.from c.requires.1 K.stands.holds c.if-left-eq0.false c.get-b.ensures in
+    let K = c.requires.tree.1 in
+    let F = found_branch c.args.self.now _ _ _ K.from c.requires.linked K.stands.holds c.if-left-eq0.false c.get-b.ensures in
     (omega (arith, c.decreases, c.if-left-eq0.false), (F.below, found_copiable _ _ _ _ _ _ _ K F))
 
 pub copy_branch-push-requires-else-left-eq0 : goal.copy_branch-push-requires-else-left-eq0
 copy_branch-push-requires-else-left-eq0 t c =
-    let K = c.requires.0.1 in
-    let F = found_branch c.args.self.now _ _ _ K.from c.requires.1 K.stands.holds c.if-left-eq0.false c.get-b.ensures in
+    let K = c.requires.tree.1 in
+    let F = found_branch c.args.self.now _ _ _ K.from c.requires.linked K.stands.holds c.if-left-eq0.false c.get-b.ensures in
     let (u, C) = c.copy_node-below.ensures F.below (found_copiable _ _ _ _ _ _ _ K F) in
     omega (arith, K.room, ap (λ t. branches_of (shape t)) F.is, C.change.branches, ap branches_of C.same, C.change.all)
 
@@ -63,7 +63,7 @@ pub copy_node-copy_branch-new-requires : goal.copy_node-copy_branch-new-requires
 copy_node-copy_branch-new-requires t c =
     let B = begun _ _ _ _ _ _ _ c.requires.1 c.if-first-eq-NONE.false c.copy_branch-head.ensures c.next-at.ensures in
     let M = c.loop-at.invariant _ _ _ B.ready in
-    (omega (arith, c.decreases), ((M.rest, M.ready.left), c.loop-at-test.true))
+    (omega (arith, c.decreases), (c.loop-at-test.true, (M.rest, M.ready.left)))
 
 pub copy_node-link-requires : goal.copy_node-link-requires
 copy_node-link-requires t c =

@@ -13,8 +13,10 @@ zeros (suc n) (suc d) = zeros n d ∙ ap (λ k. replicate {A = ℕ} k 0) (let e 
 pub settle-requires : goal.settle-requires
 settle-requires c =
     record {
-      walk = (cells c.args.within.now [] (shape c.requires.stood.0), set_out c.requires.stood.0 c.requires.stood.1);
-      few = (c.requires.few.0, c.requires.few.1, omega arith);
+      walk = (cells c.args.within.now [] (shape c.requires.tree.0), set_out c.requires.tree.0 c.requires.tree.1);
+      few = c.requires.few;
+      some = c.requires.some;
+      depth = omega arith;
       clear = zeros 8 (length c.args.within.now);
     }
 
