@@ -1,5 +1,5 @@
 -- What the calls of a tree ask and promise. Assumes nothing.
-use Rattle.std.specs.Prelude.{◌≡◌, ℕ, ◌+◌, List, [], ◌∷◌, ◌++◌, length, take, true, Some, None, Option, IfSome, OnOk, OnErr, Result, MatchResult, ◌≢◌}
+use Rattle.std.specs.Prelude.{◌≡◌, ℕ, ◌+◌, ◌<◌, List, [], ◌∷◌, ◌++◌, length, take, true, Some, None, Option, IfSome, OnOk, OnErr, Result, MatchResult, ◌≢◌}
 use Rattle.std.specs.List.{AllByRecursion}
 use Rattle.routing.specs.declared.ends.Ends.{Ends}
 use Rattle.routing.specs.Rules.{matching}
@@ -8,6 +8,7 @@ use Rattle.shape.specs.Shapes.{grown}
 use Rattle.shape.specs.Meaning.{Cell, cells, Right, Ascending}
 use Rattle.tree.specs.Means.{Means, room_of, need_of, lacking, lack_number, Spared}
 use Rattle.tree.specs.Memory.{link_of}
+use Rattle.tree.specs.Links.{chain}
 use Rattle.tree.specs.Tours.{Lists, Reached}
 use Rattle.tree.specs.declared.all_match.Tree.{Tree}
 use Rattle.tree.specs.declared.all_match.Lack.{Lack}
@@ -46,6 +47,11 @@ abbrev pub Leads : Tree → Option ℕ → List ℕ → Type 0
 Leads x None ns = ns ≡ []
 Leads x (Some at) ns = Lists x.store at ns
 
+-- how many marks there are from a link on, by which a loop over them ends
+abbrev pub marks_left : Tree → Option ℕ → ℕ
+marks_left x None = 0
+marks_left x (Some at) = chain (x.store.branches.taken + x.store.marks.taken) x.store 0 at
+
 -- The link r leads to the marks of the rules that match m, in order.
 pub record LooksUp (x : Tree) (m : List ℕ) (r : Option ℕ) : Type 0 where
   pub marks : (T : List (List Ends)) → Means x T → Leads x r (matching x.fields 1 T m)
@@ -55,6 +61,7 @@ pub record LooksUp (x : Tree) (m : List ℕ) (r : Option ℕ) : Type 0 where
 pub record Reads (x : Tree) (at : ℕ) (r : Mark) : Type 0 where
   pub rest : (ns : List ℕ) → Lists x.store at ns → (rest : List ℕ) × (ns ≡ r.rule ∷ rest) × Leads x (link_of r.next) rest
   pub some : IfSome (link_of r.next) (Marked x)
+  pub fewer : marks_left x (link_of r.next) < marks_left x (Some at)
 
 -- the cells of rules T below branches within the intervals es
 abbrev pub walked : Tree → List Ends → List (List Ends) → List Cell

@@ -89,10 +89,7 @@ fn low_corner(ends: &[Ends; 8], fields: usize) -> Message {
 fn print_matching(rt: &HostRuntime, tree: &Tree<'_>, message: Message) -> io::Result<()> {
     let mut at = tree.look_up(message);
     let mut first = true;
-    for _ in 0..512 {
-        let Some(link) = at else {
-            break;
-        };
+    while let Some(link) = at {
         let mark = tree.mark(link);
         let number = mark.rule;
         if first {

@@ -1,6 +1,9 @@
 use Rattle.std.proofs.Common.{IfSome}
-use Rattle.tree.specs.Calls.{Marked}
+use Rattle.tree.specs.Calls.{Marked, marks_left}
 use Rattle.tree_report.proofs.space.print_matching.Given as goal
 
-abbrev pub invariant-loop : goal.invariant-loop
-invariant-loop l = IfSome l.at (Marked l.tree)
+abbrev pub invariant-loop-at : goal.invariant-loop-at
+invariant-loop-at l = IfSome l.at (Marked l.tree)
+
+abbrev pub decreases-loop-at : goal.decreases-loop-at
+decreases-loop-at l = marks_left l.tree l.at

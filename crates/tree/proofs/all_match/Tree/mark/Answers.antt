@@ -1,9 +1,9 @@
-use Rattle.std.proofs.Common.{◌≡◌, ℕ, List, ◌∷◌, sym, refl}
+use Rattle.std.proofs.Common.{◌≡◌, ℕ, List, ◌∷◌, sym, refl, arith}
 use Rattle.shape.specs.Meaning.{marks_in}
 use Rattle.tree.specs.Links.{shape}
 use Rattle.tree.specs.Tours.{Lists}
-use Rattle.tree.proofs.Reading.{begin, stays_mark, seen_mark, after}
-use Rattle.tree.proofs.Leading.{leads, marked}
+use Rattle.tree.proofs.Reading.{begin, stays_mark, seen_mark, after, less}
+use Rattle.tree.proofs.Leading.{leads, marked, left_most}
 use Rattle.tree.proofs.all_match.Tree.mark.Goals as goal
 
 pub get-requires : goal.get-requires
@@ -21,4 +21,8 @@ returns c =
     record {
       rest = λ ns L. let (rest, is, M) = others ns L in (rest, is, leads x _ rest M);
       some = let (ns, L) = c.requires.0 in let (rest, is, M) = others ns L in marked x _ rest M;
+      fewer =
+          let (ns, L) = c.requires.0 in
+          let W = begin x.store 0 c.args.at L.0 (λ _. Unit {0}) L.1 tt in
+          omega (arith, left_most x c.get.result.next, less W (seen_mark W refl c.requires.1 c.get.ensures));
     }
