@@ -4,15 +4,15 @@ use Rattle.tree.proofs.Copies.{new_branch}
 use Rattle.tree.proofs.Fills.{tail_fits, room_first, first_kept, first_filled}
 use Rattle.tree.proofs.records.Store.fill.Goals as goal
 
-pub gap_before-front-requires : goal.gap_before-front-requires
-gap_before-front-requires c =
+pub gap_before-front-requires-clause-node : goal.gap_before-front-requires-clause-node
+gap_before-front-requires-clause-node c =
     let (d, pos, (t, K)) = c.requires.room in
-    record { node = (d, t, pos, K.stands, K.from); upward = c.requires.upward }
+    (d, t, pos, K.stands, K.from)
 
-pub fill_after-requires : goal.fill_after-requires
-fill_after-requires c =
+pub fill_after-requires-clause-room : goal.fill_after-requires-clause-room
+fill_after-requires-clause-room c =
     let (d, pos, (t, K)) = c.requires.room in
-    record { room = (d, pos, (t, tail_fits _ _ _ _ t K _ (c.gap_before-front.ensures d t pos K.stands K.from))); upward = c.requires.upward }
+    (d, pos, (t, tail_fits _ _ _ _ t K _ (c.gap_before-front.ensures d t pos K.stands K.from)))
 
 pub push-requires : goal.push-requires
 push-requires c =

@@ -16,15 +16,12 @@ returns-then-span-b c d pos t K =
     let F = see_branch W c.in-Some.ensures.more pos c.in-Some.ensures.found in
     full c.args.span.low c.args.span.high c.loop-b.want W F c.if-span-b.true
 
-pub gap_before-requires : goal.gap_before-requires
-gap_before-requires c =
+pub gap_before-requires-clause-node : goal.gap_before-requires-clause-node
+gap_before-requires-clause-node c =
     let (d, pos, (t, K)) = c.requires.room in
     let W = c.loop-b.invariant.walk d t pos K in
     let F = see_branch W c.in-Some.ensures.more pos c.in-Some.ensures.found in
-    record {
-      node = (d, F.rest, pos, rest_stands W F, F.rest_from);
-      upward = omega (arith, c.max-want.ensures, c.if-span-b.false, c.loop-b.invariant.upward);
-    }
+    (d, F.rest, pos, rest_stands W F, F.rest_from)
 
 pub put_after-requires : goal.put_after-requires
 put_after-requires c =
