@@ -4,6 +4,7 @@ use Rattle.std.proofs.lemmas.List.{get_or-set_other, take_more, drop_more, get_o
 use Rattle.std.proofs.lemmas.Bool.{cond-true, cond-false}
 use Rattle.shape.specs.Shapes.{Label, piece, Shape, bare, part}
 use Rattle.shape.specs.Meaning.{within, box_of, Cell, cells, marks_in}
+use Rattle.tree.specs.Memory.{in_use}
 use Rattle.tree.specs.Links.{Records, item, shape}
 use Rattle.tree.specs.Reads.{Stood}
 use Rattle.tree.specs.Tours.{top_box, later, boxes, Stack, waiting, Touring, Below, Reached}
@@ -41,11 +42,11 @@ waits n s d path zero = 0
 waits n s d path (suc j) = work (d - j) (later (shape (read_at n s (d - j) (get_or path j 0)))) + waits n s d path j
 
 -- a tree that stands is read off
-read_stood : (s : Store) (d at : ℕ) (t : Records) → Stood s d at t → read_at (s.branches.taken + s.marks.taken) s d at ≡ t
-read_stood s d at t S = ap (read_at (s.branches.taken + s.marks.taken) s d) (sym S.from) ∙ read_is (s.branches.taken + s.marks.taken) s d t S.stands.holds S.steps
+read_stood : (s : Store) (d at : ℕ) (t : Records) → Stood s d at t → read_at (in_use s) s d at ≡ t
+read_stood s d at t S = ap (read_at (in_use s) s d) (sym S.from) ∙ read_is (in_use s) s d t S.stands.holds S.steps
 
 -- what waits is read off too
-waits_is : (s : Store) (d : ℕ) (path lows : List ℕ) (rs : List Records) → Stack s d path lows rs → waits (s.branches.taken + s.marks.taken) s d path (length rs) ≡ to_do d rs
+waits_is : (s : Store) (d : ℕ) (path lows : List ℕ) (rs : List Records) → Stack s d path lows rs → waits (in_use s) s d path (length rs) ≡ to_do d rs
 waits_is s d path lows [] h = refl
 waits_is s d path lows (r ∷ rs) h =
     ap₂ (λ t n. work (d - length rs) (later (shape t)) + n) (read_stood s (d - length rs) (get_or path (length rs) 0) r h.0) (waits_is s d path lows rs h.3)
@@ -103,7 +104,7 @@ measure {es = es} T = work (length es - length T.stack) (shape T.node) + to_do (
 
 -- as the records have them
 abbrev pub turns : Store → (d : ℕ) (path : List ℕ) (k at : ℕ) → ℕ
-turns s d path k at = work (d - k) (shape (read_at (s.branches.taken + s.marks.taken) s (d - k) at)) + waits (s.branches.taken + s.marks.taken) s d path k
+turns s d path k at = work (d - k) (shape (read_at (in_use s) s (d - k) at)) + waits (in_use s) s d path k
 
 -- the records tell the turns that are left
 turns_are : {s : Store} {es : List Ends} {path lows : List ℕ} {k at : ℕ} {cs : List Cell} (T : Touring s es path lows k at cs) → turns s (length es) path k at ≡ measure T

@@ -1,7 +1,7 @@
 -- A loop along the branches of a node, or the marks of a cell, that changes them in place. Assumes nothing.
-use Rattle.std.proofs.Common.{◌≡◌, ℕ, ◌+◌, ◌-◌, ◌<◌, ◌≤◌, length, slice_get, Some, sym, refl, ap, ◌∙◌, subst, arith}
+use Rattle.std.proofs.Common.{◌≡◌, ℕ, ◌-◌, ◌<◌, ◌≤◌, length, slice_get, Some, sym, refl, ap, ◌∙◌, subst, arith}
 use Rattle.shape.specs.Shapes.{Label, piece, rule, Shape, bare, part, branch_of, mark_of, branches_of, marks_of, siblings}
-use Rattle.tree.specs.Memory.{rec, one, live, look, Written, Pushed}
+use Rattle.tree.specs.Memory.{rec, one, live, look, Written, Pushed, in_use}
 use Rattle.tree.specs.Links.{Records, none, item, shape, root, place, Holds, count, Stands, Changed, Fits, Became, chain}
 use Rattle.tree.specs.declared.records.Store.{Store}
 use Rattle.tree.specs.declared.records.Branch.{Branch}
@@ -93,7 +93,7 @@ pub record Walk (s₀ : Store) (d first : ℕ) (g₀ : Shape → Shape) (t : Rec
 
 -- the loop begins
 pub start :
-    (s : Store) (d first : ℕ) (g : Shape → Shape) (t : Records) → Fits s d first t (g (shape t)) → Walk s d first g t s first (s.branches.taken + s.marks.taken) g
+    (s : Store) (d first : ℕ) (g : Shape → Shape) (t : Records) → Fits s d first t (g (shape t)) → Walk s d first g t s first (in_use s) g
 start s d first g t K =
     record { rest = t; fits = K; turns = omega (arith, K.steps, few (shape t)); finish = λ s' r' B. (r', B) }
 

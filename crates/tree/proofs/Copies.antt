@@ -1,7 +1,7 @@
 -- The loop of copy_node. Assumes nothing.
 use Rattle.std.proofs.Common.{◌≡◌, ℕ, ◌+◌, ◌-◌, ◌<◌, ◌≤◌, sym, refl, ap, ◌∙◌, subst, arith}
 use Rattle.shape.specs.Shapes.{Label, branches_of, marks_of, siblings}
-use Rattle.tree.specs.Memory.{one, Rec, rec, next_of, with_next, mark_place, live, look, Written, Pushed}
+use Rattle.tree.specs.Memory.{one, Rec, rec, next_of, with_next, mark_place, live, look, Written, Pushed, in_use}
 use Rattle.tree.specs.Links.{Records, none, item, shape, root, place, Holds, count, Changed, Copiable, Copied, CopiedOne, chain}
 use Rattle.tree.specs.declared.records.Store.{Store}
 use Rattle.tree.proofs.Places.{one_self, live_most, place_mark, place_branch}
@@ -255,7 +255,7 @@ pub record Begun (s s₁ : Store) (d first head at : ℕ) (t : Records) : Type 0
   pub new : Records
   pub is : t ≡ item first label below rest
   pub one : CopiedOne s s₁ d label below head new
-  pub ready : Ready s₁ d at head (s₁.branches.taken + s₁.marks.taken) rest label new
+  pub ready : Ready s₁ d at head (in_use s₁) rest label new
 
 -- the loop begins after the first record
 pub begun :
@@ -274,7 +274,7 @@ begun s s₁ d first head at t K ne copies e =
       is = O.is;
       one = C;
       ready =
-          rest_ready s s₁ d first head O.label O.below O.rest u J C at (s₁.branches.taken + s₁.marks.taken) e
+          rest_ready s s₁ d first head O.label O.below O.rest u J C at (in_use s₁) e
           (omega (arith, J.steps, few (shape (item first O.label O.below O.rest)), C.change.branches, C.change.marks));
     }
 

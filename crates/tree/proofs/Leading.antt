@@ -1,9 +1,9 @@
 -- Links as options, and walks that have found a cell. Assumes nothing.
-use Rattle.std.proofs.Common.{◌≡◌, ℕ, ◌+◌, ◌≤◌, true, false, cond, not, eqb, List, [], ◌∷◌, Some, None, IfSome, sym, refl, ap, ◌∙◌, subst, ⊎_elim, arith}
+use Rattle.std.proofs.Common.{◌≡◌, ℕ, ◌≤◌, true, false, cond, not, eqb, List, [], ◌∷◌, Some, None, IfSome, sym, refl, ap, ◌∙◌, subst, ⊎_elim, arith}
 use Rattle.std.specs.Bool.{then_some}
 use Rattle.std.proofs.lemmas.Bool.Decides.{eqb_tells}
 use Rattle.shape.specs.Meaning.{Cell, marks_in}
-use Rattle.tree.specs.Memory.{link_of}
+use Rattle.tree.specs.Memory.{link_of, in_use}
 use Rattle.tree.specs.Links.{none, shape, chain}
 use Rattle.tree.specs.Reads.{Stood}
 use Rattle.tree.specs.Tours.{Lists, Reached}
@@ -47,9 +47,9 @@ module _ (x : Tree) (n : ℕ) (ns : List ℕ) where
       (eqb_tells n 0xffff_ffff)
 
 -- from an option on there are no more marks than from the plain link
-pub left_most : (x : Tree) (n : ℕ) → marks_left x (link_of n) ≤ chain (x.store.branches.taken + x.store.marks.taken) x.store 0 n
+pub left_most : (x : Tree) (n : ℕ) → marks_left x (link_of n) ≤ chain (in_use x.store) x.store 0 n
 left_most x n =
-    let k = x.store.branches.taken + x.store.marks.taken in
+    let k = in_use x.store in
     ⊎_elim (λ y. subst (λ b. marks_left x (cond b None (Some n)) ≤ chain k x.store 0 n) (sym y.0) (omega arith))
     (λ z. subst (λ b. marks_left x (cond b None (Some n)) ≤ chain k x.store 0 n) (sym z.0) (omega arith)) (eqb_tells n 0xffff_ffff)
 

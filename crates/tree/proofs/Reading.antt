@@ -1,6 +1,7 @@
 -- A loop along a node or a cell that changes nothing. Assumes nothing.
 use Rattle.std.proofs.Common.{◌≡◌, ℕ, ◌+◌, ◌-◌, ◌<◌, ◌≤◌, length, slice_get, Some, sym, refl, ap, ◌∙◌, subst, arith}
 use Rattle.shape.specs.Shapes.{Label, piece, rule, Shape, bare, part, siblings}
+use Rattle.tree.specs.Memory.{in_use}
 use Rattle.tree.specs.Links.{Records, none, item, shape, root, Holds, chain}
 use Rattle.tree.specs.Reads.{Ordered, Stood}
 use Rattle.tree.specs.declared.records.Store.{Store}
@@ -58,7 +59,7 @@ module _ {s : Store} {d at : ℕ} {l : Label} {bel next : ℕ} {t : Records} (S 
       }
 
 -- the loop begins
-pub begin : (s : Store) (d first : ℕ) (t : Records) (P : Shape → Type 0) → Stood s d first t → P (shape t) → Passing s d first (s.branches.taken + s.marks.taken) P
+pub begin : (s : Store) (d first : ℕ) (t : Records) (P : Shape → Type 0) → Stood s d first t → P (shape t) → Passing s d first (in_use s) P
 begin s d first t P S h = record { rest = t; stood = S; turns = omega (arith, S.steps, few (shape t)); fact = h }
 
 module _ {s : Store} {d at n : ℕ} {P : Shape → Type 0} (W : Passing s d at n P) where

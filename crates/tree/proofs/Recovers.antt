@@ -7,7 +7,7 @@ use Rattle.std.proofs.lemmas.Bool.{cond-false, ne_eqb}
 use Rattle.std.specs.List.{AllByRecursion, AllByRecursion-prop}
 use Rattle.shape.specs.Shapes.{Label, piece, rule, branches_of, marks_of, Shape, ShapeSet, bare, part, grown}
 use Rattle.shape.specs.Meaning.{Sound, Proper, Tidy}
-use Rattle.tree.specs.Memory.{look, RecSet, label_of, below_of, next_of}
+use Rattle.tree.specs.Memory.{look, RecSet, label_of, below_of, next_of, in_use}
 use Rattle.tree.specs.Links.{Records, none, item, shape, root, place, Holds, Stands}
 use Rattle.tree.specs.Reads.{Ordered, Stood, SomeTree}
 use Rattle.tree.specs.Meant.{Meant, SomeRules}
@@ -71,13 +71,13 @@ sized {s} {first} {d} {T} m =
 
 -- what is read at the root
 abbrev pub read : Store → (first d : ℕ) → Records
-read s first d = read_at (s.branches.taken + s.marks.taken) s d first
+read s first d = read_at (in_use s) s d first
 
 -- it is the tree of the rules
 pub read_tree : {s : Store} {first d : ℕ} {T : List (List Ends)} (m : Meant s first d T) → m.records.0 ≡ read s first d
 read_tree {s} {first} {d} m =
     let z = sized m in
-    let n = s.branches.taken + s.marks.taken in
+    let n = in_use s in
     sym (read_is n s d m.records.0 m.records.1.holds (omega (arith, z.0, z.1))) ∙ ap (read_at n s d) m.records.2
 
 -- THE READING: the tree is read off the records, so what they mean comes out of the truncation

@@ -341,11 +341,6 @@ pub one_part :
     → p + weight p q below ≡ parts_out p q low high a b below
 one_part p q low high a b below x y = grind (arith, nat_tests)
 
--- one that lies apart has none inside
-pub no_part :
-    (p q low high : ℕ) (f : Shape → Shape) (a b : ℕ) (below : Shape) → ((low ≤ b) × (high < a)) ⊎ (b < low) → 0 ≡ part_in p q low high f a b below
-no_part p q low high f a b below x = grind (arith, nat_tests)
-
 -- A TURN OF THE COUNT: the gap before a branch and its parts are added
 pub turned :
     (low high : ℕ) (f : Shape → Shape) (w w' a b : ℕ) (below rest : Shape) {k gap parts k₁ k₂ : Space} {g : ℕ → ℕ → ℕ}

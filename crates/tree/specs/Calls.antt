@@ -7,7 +7,7 @@ use Rattle.routing.specs.Space.{branches, marks}
 use Rattle.shape.specs.Shapes.{grown}
 use Rattle.shape.specs.Meaning.{Cell, cells, Right, Ascending}
 use Rattle.tree.specs.Means.{Means, room_of, need_of, lacking, lack_number, Spared}
-use Rattle.tree.specs.Memory.{link_of}
+use Rattle.tree.specs.Memory.{link_of, in_use}
 use Rattle.tree.specs.Links.{chain}
 use Rattle.tree.specs.Tours.{Lists, Reached}
 use Rattle.tree.specs.declared.all_match.Tree.{Tree}
@@ -50,7 +50,7 @@ Leads x (Some at) ns = Lists x.store at ns
 -- how many marks there are from a link on, by which a loop over them ends
 abbrev pub marks_left : Tree → Option ℕ → ℕ
 marks_left x None = 0
-marks_left x (Some at) = chain (x.store.branches.taken + x.store.marks.taken) x.store 0 at
+marks_left x (Some at) = chain (in_use x.store) x.store 0 at
 
 -- The link r leads to the marks of the rules that match m, in order.
 pub record LooksUp (x : Tree) (m : List ℕ) (r : Option ℕ) : Type 0 where

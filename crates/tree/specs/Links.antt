@@ -4,7 +4,7 @@ use Rattle.std.specs.List.{AllByRecursion}
 use Rattle.routing.specs.declared.ends.Ends.{Ends}
 use Rattle.shape.specs.Shapes.{Label, piece, rule, Shape, bare, part, branches_of, marks_of, gaps}
 use Rattle.shape.specs.Meaning.{Upward}
-use Rattle.tree.specs.Memory.{look, live, space, one, mark_place, rec, next_of, with_next, Written, Pushed}
+use Rattle.tree.specs.Memory.{look, live, space, one, mark_place, rec, next_of, with_next, Written, Pushed, in_use}
 use Rattle.tree.specs.declared.records.Store.{Store}
 
 -- The records of a node or a cell, by their indices, each with those of what is below it.
@@ -58,7 +58,7 @@ pub record Changed (s s' : Store) (d : ℕ) (t t' : Records) : Type 0 where
 pub record Copiable (s : Store) (d first : ℕ) (t : Records) : Type 0 where
   pub stands : Stands s d t
   pub from : root t ≡ first
-  pub steps : branches_of (shape t) + marks_of (shape t) ≤ s.branches.taken + s.marks.taken
+  pub steps : branches_of (shape t) + marks_of (shape t) ≤ in_use s
   pub room : s.branches.taken + branches_of (shape t) ≤ space (length s.branches.records.now)
   pub room_marks : s.marks.taken + marks_of (shape t) ≤ space (length s.marks.records.now)
 
@@ -77,7 +77,7 @@ pub record CopiedOne (s s' : Store) (d : ℕ) (l : Label) (below : Records) (r :
 pub record Fits (s : Store) (d first : ℕ) (t : Records) (sh : Shape) : Type 0 where
   pub stands : Stands s d t
   pub from : root t ≡ first
-  pub steps : branches_of (shape t) + marks_of (shape t) ≤ s.branches.taken + s.marks.taken
+  pub steps : branches_of (shape t) + marks_of (shape t) ≤ in_use s
   pub room : s.branches.taken + branches_of sh ≤ space (length s.branches.records.now) + branches_of (shape t)
   pub room_marks : s.marks.taken + marks_of sh ≤ space (length s.marks.records.now) + marks_of (shape t)
 

@@ -46,6 +46,10 @@ top u n = min u n
 abbrev pub live : Store → ℕ → ℕ
 live s k = live_in (top s.branches.taken (length s.branches.records.now)) (top s.marks.taken (length s.marks.records.now)) k
 
+-- how many records are taken
+abbrev pub in_use : Store → ℕ
+in_use s = s.branches.taken + s.marks.taken
+
 abbrev pub of_branch : Branch → Rec
 of_branch b = rec (piece b.low b.high) b.below b.next
 

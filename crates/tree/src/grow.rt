@@ -181,7 +181,8 @@ impl Store<'_> {
         }
     }
 
-    // Appends the rule `i` with these intervals to the tree at `first`. The answer is where it starts then.
+    // Appends the rule `i` with these intervals to the tree at `first`. The answer is where it starts then. It calls itself for each field
+    // that is left, eight at most; a walk, which a caller takes step by step, is a loop.
     #[cycle(append_descend)]
     pub(crate) fn append(&mut self, left: usize, first: u32, rule: &[Ends], i: u16) -> u32
         requires room { Can self.old left first (insert rule.now i) }

@@ -7,29 +7,8 @@ use Rattle.tree.proofs.Places.{inside_branch, wrote_branch}
 use Rattle.tree.proofs.Copies.{written_branch}
 use Rattle.tree.proofs.Changing.{start, there_branch, see_branch, stands, pass, less, done}
 use Rattle.tree.proofs.Grows.{Grows}
-use Rattle.tree.proofs.Descends.{first_ends, other_ends, no_ends, under_past, below_fits, alive_after, turn_change, turned, split, ahead, onward, chained, under_grows, insert_grows}
+use Rattle.tree.proofs.Descends.{first_ends, other_ends, under_past, below_fits, alive_after, turn_change, turned, split, ahead, onward, chained, under_grows, insert_grows}
 use Rattle.tree.proofs.records.Store.+append_descend.Goals as goal
-
-pub append-add_mark-requires : goal.append-add_mark-requires
-append-add_mark-requires t c =
-    let (u, K) = c.requires.room in
-    let z = no_ends _ _ c.requires.rule.fields c.if-left-eq0.true in (
-      u,
-      subst (λ xs. Fits c.args.self.now 0 c.args.first u (insert xs c.args.i (shape u))) z
-          (subst (λ d. Fits c.args.self.now d c.args.first u (insert c.args.rule.now c.args.i (shape u))) c.if-left-eq0.true K),
-    )
-
-pub append-returns-then-left-eq0 : goal.append-returns-then-left-eq0
-append-returns-then-left-eq0 t c u K =
-    let z = no_ends _ _ c.requires.rule.fields c.if-left-eq0.true in
-    let J =
-    subst (λ xs. Fits c.args.self.now 0 c.args.first u (insert xs c.args.i (shape u))) z
-    (subst (λ d. Fits c.args.self.now d c.args.first u (insert c.args.rule.now c.args.i (shape u))) c.if-left-eq0.true K) in
-    let (v, B) = c.add_mark.ensures u J in (
-      v,
-      subst (λ d. Became c.args.self.now c.add_mark.new.self d u (insert c.args.rule.now c.args.i (shape u)) c.add_mark.result v) (sym c.if-left-eq0.true)
-          (subst (λ xs. Became c.args.self.now c.add_mark.new.self 0 u (insert xs c.args.i (shape u)) c.add_mark.result v) (sym z) B),
-    )
 
 -- with a field left, it is the first interval here and the others below
 abbrev here : List Ends → Shape → Shape
@@ -45,14 +24,14 @@ open_ends : (s : Store) (d first : ℕ) (xs : List Ends) (i : ℕ) (t : Records)
     → xs ≡ first_ends xs ∷ other_ends xs → Fits s d first t (insert xs i (shape t)) → Fits s d first t (lower xs i (here xs (shape t)))
 open_ends s d first xs i t e K = subst (λ ys. Fits s d first t (insert ys i (shape t))) e K
 
-pub append-prepare-first-requires : goal.append-prepare-first-requires
-append-prepare-first-requires t c =
+pub append-prepare-first-requires-clause-room : goal.append-prepare-first-requires-clause-room
+append-prepare-first-requires-clause-room t c =
     let xs = c.args.rule.now in
     let (u, K) = c.requires.room in
     let pos : 0 < c.args.left = omega (arith, c.if-left-eq0.false) in
     let X = split _ xs c.requires.rule pos in
     let J = open_ends _ _ _ xs c.args.i u X.is K in
-    record { branches = pos; room = (u, ahead (here xs) (lower xs c.args.i) _ _ _ u (lower_grows xs c.args.i) J); upward = X.upward }
+    (u, ahead (here xs) (lower xs c.args.i) _ _ _ u (lower_grows xs c.args.i) J)
 
 pub append-descend-requires : goal.append-descend-requires
 append-descend-requires t c =

@@ -4,26 +4,14 @@ use Rattle.tree.specs.Links.{none, shape}
 use Rattle.tree.specs.Reads.{Stood, weight}
 use Rattle.tree.proofs.Descends.{first_ends, other_ends, split, no_ends}
 use Rattle.tree.proofs.Reading.{begin, stays_branch, seen_branch, ended, at_record, below, after, less, nothing}
-use Rattle.tree.proofs.Weights.{marked, weighs_as, weighs_both, new_before, new_after, branch_weighs, mark_weighs, nothing_weighs, no_part, toward_none, turned, finished}
+use Rattle.tree.proofs.Weights.{marked, weighs_as, weighs_both, new_before, new_after, branch_weighs, mark_weighs, toward_none, turned, finished}
 use Rattle.tree.proofs.records.Store.+inside_space_with.Goals as goal
-
-pub inside-returns : goal.inside-returns
-inside-returns t c u i S =
-    weighs_as _ (λ p q. no_part p q c.args.ends.low c.args.ends.high (insert c.args.rest.now i) c.args.b.low c.args.b.high (shape u) c.else-ends-b.either) nothing_weighs
 
 pub space_with-returns-then-left-eq0 : goal.space_with-returns-then-left-eq0
 space_with-returns-then-left-eq0 t c u i S =
     weighs_as _
     (λ p q. sym (ap (λ xs. weight p q (insert xs i (shape u))) (no_ends _ _ c.requires.rule.fields c.if-left-eq0.true) ∙ marked p q i (shape u)))
     (weighs_both (c.space_of_cell.ensures u (subst (λ d. Stood c.args.self.now d c.args.first u) c.if-left-eq0.true S)) mark_weighs c.plus.ensures)
-
-pub space_with-space_of_cell-requires : goal.space_with-space_of_cell-requires
-space_with-space_of_cell-requires t c = let (u, S) = c.requires.tree in (u, subst (λ d. Stood c.args.self.now d c.args.first u) c.if-left-eq0.true S)
-
-pub space_with-space_with-requires : goal.space_with-space_with-requires
-space_with-space_with-requires t c =
-    let left : 0 < c.args.left = omega (arith, c.if-left-eq0.false) in
-    (omega (arith, c.decreases, left), ((none, nothing _ _), (split _ _ c.requires.rule left).rest))
 
 pub space_with-loop-b-init : goal.space_with-loop-b-init
 space_with-loop-b-init t c =
@@ -40,12 +28,12 @@ space_with-loop-b-init t c =
 pub space_with-follow-requires : goal.space_with-follow-requires
 space_with-follow-requires t c = λ ne. stays_branch (c.loop-b.invariant.counted _ 0 c.requires.tree.1) (omega (arith, c.if-left-eq0.false)) ne
 
-pub space_with-outside-requires : goal.space_with-outside-requires
-space_with-outside-requires t c =
+pub space_with-outside-requires-clause-below : goal.space_with-outside-requires-clause-below
+space_with-outside-requires-clause-below t c =
     let left : 0 < c.args.left = omega (arith, c.if-left-eq0.false) in
     let W = c.loop-b.invariant.counted _ 0 c.requires.tree.1 in
     let F = seen_branch W left c.in-Some.ensures.more c.in-Some.ensures.found in
-    record { branch = left; below = (F.below, below W F) }
+    (F.below, below W F)
 
 pub space_with-inside-requires : goal.space_with-inside-requires
 space_with-inside-requires t c =

@@ -1,15 +1,9 @@
-use Rattle.std.proofs.Common.{◌+◌, ◌<◌, refl, subst, arith}
+use Rattle.std.proofs.Common.{◌+◌, ◌<◌, refl, arith}
 use Rattle.tree.specs.Links.{shape}
-use Rattle.tree.specs.Reads.{Stood, weight}
+use Rattle.tree.specs.Reads.{weight}
 use Rattle.tree.proofs.Reading.{begin, stays_branch, seen_branch, ended, below, after, less}
 use Rattle.tree.proofs.Weights.{toward_none, toward_more, toward_all, branch_weighs}
 use Rattle.tree.proofs.records.Store.+space_of.Goals as goal
-
-pub space_of_cell-requires : goal.space_of_cell-requires
-space_of_cell-requires t c = let (u, S) = c.requires in (u, subst (λ d. Stood c.args.self.now d c.args.first u) c.if-left-eq0.true S)
-
-pub returns-then-left-eq0 : goal.returns-then-left-eq0
-returns-then-left-eq0 t c u S = c.space_of_cell.ensures u (subst (λ d. Stood c.args.self.now d c.args.first u) c.if-left-eq0.true S)
 
 pub loop-b-init : goal.loop-b-init
 loop-b-init t c u S = begin _ _ _ u _ S (toward_none _ _ (λ p q. refl))

@@ -1,32 +1,11 @@
 use Rattle.std.proofs.Common.{arith}
 use Rattle.tree.proofs.Places.{pushed_branch}
 use Rattle.tree.proofs.Copies.{new_branch}
-use Rattle.tree.proofs.Fills.{tail_fits, room_first, first_kept, first_filled}
+use Rattle.tree.proofs.Fills.{tail_fits, first_filled}
 use Rattle.tree.proofs.records.Store.fill.Goals as goal
-
-pub gap_before-front-requires : goal.gap_before-front-requires
-gap_before-front-requires c =
-    let (d, pos, (t, K)) = c.requires.room in
-    record { node = (d, t, pos, K.stands, K.from); upward = c.requires.upward }
-
-pub fill_after-requires : goal.fill_after-requires
-fill_after-requires c =
-    let (d, pos, (t, K)) = c.requires.room in
-    record { room = (d, pos, (t, tail_fits _ _ _ _ t K _ (c.gap_before-front.ensures d t pos K.stands K.from))); upward = c.requires.upward }
-
-pub push-requires : goal.push-requires
-push-requires c =
-    let (d, pos, (t, K)) = c.requires.room in
-    let (u, B) = c.fill_after.ensures d pos t (tail_fits _ _ _ _ t K _ (c.gap_before-front.ensures d t pos K.stands K.from)) in
-    room_first _ _ _ _ t K _ u B c.in-Some.gap (c.in-Some.ensures d t pos K.stands K.from)
 
 pub returns-in-Some : goal.returns-in-Some
 returns-in-Some c d pos t K =
     let (u, B) = c.fill_after.ensures d pos t (tail_fits _ _ _ _ t K _ (c.gap_before-front.ensures d t pos K.stands K.from)) in
     first_filled _ _ _ _ t K _ u B c.in-Some.gap (c.in-Some.ensures d t pos K.stands K.from) _ _ c.push.ensures.low
     (new_branch _ _ d _ _ (λ z. omega (arith, pos, z)) (pushed_branch _ _ _ _ c.push.ensures))
-
-pub returns-in-None : goal.returns-in-None
-returns-in-None c d pos t K =
-    let (u, B) = c.fill_after.ensures d pos t (tail_fits _ _ _ _ t K _ (c.gap_before-front.ensures d t pos K.stands K.from)) in
-    (u, first_kept _ _ _ _ t K _ u B (c.in-None.ensures d t pos K.stands K.from))

@@ -1,4 +1,5 @@
-use Rattle.std.proofs.Common.{◌+◌, refl, arith}
+use Rattle.std.proofs.Common.{refl, arith}
+use Rattle.tree.specs.Memory.{in_use}
 use Rattle.tree.proofs.Frames.{chain_branch}
 use Rattle.tree.proofs.Changing.{pass, start, there_branch, see_branch, stands, less, done, rest_stands}
 use Rattle.tree.proofs.Fills.{full, room_gap, gap_is, gap_change, step_two, over_is}
@@ -16,15 +17,12 @@ returns-then-span-b c d pos t K =
     let F = see_branch W c.in-Some.ensures.more pos c.in-Some.ensures.found in
     full c.args.span.low c.args.span.high c.loop-b.want W F c.if-span-b.true
 
-pub gap_before-requires : goal.gap_before-requires
-gap_before-requires c =
+pub gap_before-requires-clause-node : goal.gap_before-requires-clause-node
+gap_before-requires-clause-node c =
     let (d, pos, (t, K)) = c.requires.room in
     let W = c.loop-b.invariant.walk d t pos K in
     let F = see_branch W c.in-Some.ensures.more pos c.in-Some.ensures.found in
-    record {
-      node = (d, F.rest, pos, rest_stands W F, F.rest_from);
-      upward = omega (arith, c.max-want.ensures, c.if-span-b.false, c.loop-b.invariant.upward);
-    }
+    (d, F.rest, pos, rest_stands W F, F.rest_from)
 
 pub put_after-requires : goal.put_after-requires
 put_after-requires c =
@@ -37,7 +35,7 @@ put_after-requires c =
 pub loop-b-smaller-in-Some-gap_before : goal.loop-b-smaller-in-Some-gap_before
 loop-b-smaller-in-Some-gap_before c =
     let (d, pos, (t, K)) = c.requires.room in
-    let n = c.args.self.now.branches.taken + c.args.self.now.marks.taken in
+    let n = in_use c.args.self.now in
     let W = c.loop-b.invariant.walk d t pos K in
     let F = see_branch W c.in-Some.ensures.more pos c.in-Some.ensures.found in
     let G = c.in-Some-gap_before.ensures d F.rest pos (rest_stands W F) F.rest_from in
@@ -60,7 +58,7 @@ loop-b-preserved-in-Some-gap_before c = record {
 pub loop-b-smaller : goal.loop-b-smaller
 loop-b-smaller c =
     let (d, pos, (t, K)) = c.requires.room in
-    let n = c.args.self.now.branches.taken + c.args.self.now.marks.taken in
+    let n = in_use c.args.self.now in
     let W = c.loop-b.invariant.walk d t pos K in
     let F = see_branch W c.in-Some.ensures.more pos c.in-Some.ensures.found in
     omega (arith, less W F c.loop-b.self (stands W F).holds.3, chain_branch n c.loop-b.self d c.loop-b.at pos, chain_branch n c.loop-b.self d c.in-Some.b.next pos)

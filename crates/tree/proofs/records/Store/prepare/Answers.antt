@@ -15,23 +15,23 @@ later_grows low high sh =
     let b = gaps_grows low high (cut_above high sh) in
     record { branches = omega arith; marks = omega arith }
 
-pub cut-requires : goal.cut-requires
-cut-requires c =
+pub cut-requires-clause-room : goal.cut-requires-clause-room
+cut-requires-clause-room c =
     let (t, K) = c.requires.room in
-    record { branches = c.requires.branches; room = (t, ahead (cut_at c.args.ends.low) (later c.args.ends.low c.args.ends.high) _ _ _ t (later_grows c.args.ends.low c.args.ends.high) K) }
+    (t, ahead (cut_at c.args.ends.low) (later c.args.ends.low c.args.ends.high) _ _ _ t (later_grows c.args.ends.low c.args.ends.high) K)
 
-pub cut_above-requires : goal.cut_above-requires
-cut_above-requires c =
+pub cut_above-requires-clause-room : goal.cut_above-requires-clause-room
+cut_above-requires-clause-room c =
     let cut = cut_at c.args.ends.low in
     let above = cut_above c.args.ends.high in
     let fill = gaps c.args.ends.low c.args.ends.high in
     let later = later c.args.ends.low c.args.ends.high in
     let (t, K) = c.requires.room in
     let (t₁, A) = c.cut.ensures t (ahead cut later _ _ _ t (later_grows c.args.ends.low c.args.ends.high) K) in
-    record { branches = c.requires.branches; room = (t₁, ahead above fill _ _ _ t₁ (gaps_grows c.args.ends.low c.args.ends.high) (onward cut later _ _ _ _ _ t t₁ K A)) }
+    (t₁, ahead above fill _ _ _ t₁ (gaps_grows c.args.ends.low c.args.ends.high) (onward cut later _ _ _ _ _ t t₁ K A))
 
-pub fill-requires : goal.fill-requires
-fill-requires c =
+pub fill-requires-clause-room : goal.fill-requires-clause-room
+fill-requires-clause-room c =
     let cut = cut_at c.args.ends.low in
     let above = cut_above c.args.ends.high in
     let fill = gaps c.args.ends.low c.args.ends.high in
@@ -40,7 +40,7 @@ fill-requires c =
     let (t₁, A) = c.cut.ensures t (ahead cut later _ _ _ t (later_grows c.args.ends.low c.args.ends.high) K) in
     let K₁ = onward cut later _ _ _ _ _ t t₁ K A in
     let (t₂, B) = c.cut_above.ensures t₁ (ahead above fill _ _ _ t₁ (gaps_grows c.args.ends.low c.args.ends.high) K₁) in
-    record { room = (c.args.left, c.requires.branches, (t₂, onward above fill _ _ _ _ _ t₁ t₂ K₁ B)); upward = c.requires.upward }
+    (c.args.left, c.requires.branches, (t₂, onward above fill _ _ _ _ _ t₁ t₂ K₁ B))
 
 pub returns : goal.returns
 returns c t K =

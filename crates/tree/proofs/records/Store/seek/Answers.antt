@@ -1,6 +1,7 @@
-use Rattle.std.proofs.Common.{◌+◌, sym, refl, ◌∙◌, arith}
+use Rattle.std.proofs.Common.{sym, refl, ◌∙◌, arith}
 use Rattle.std.proofs.lemmas.Bool.{cond-true, cond-false}
 use Rattle.shape.specs.Shapes.{piece, part}
+use Rattle.tree.specs.Memory.{in_use}
 use Rattle.tree.specs.Links.{none, shape}
 use Rattle.tree.specs.Reads.{Ordered}
 use Rattle.tree.proofs.Frames.{chain_branch}
@@ -38,7 +39,7 @@ loop-b-smaller c =
     let (d, pos, (t, S)) = c.requires in
     let W = c.loop-b.invariant d t pos S in
     let F = seen_branch W pos c.in-Some.ensures.more c.in-Some.ensures.found in
-    omega (arith, less W F, chain_branch (s.branches.taken + s.marks.taken) s d c.loop-b.at pos, chain_branch (s.branches.taken + s.marks.taken) s d c.in-Some.b.next pos)
+    omega (arith, less W F, chain_branch (in_use s) s d c.loop-b.at pos, chain_branch (in_use s) s d c.in-Some.b.next pos)
 
 pub loop-b-preserved : goal.loop-b-preserved
 loop-b-preserved c d t pos S =
