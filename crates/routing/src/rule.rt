@@ -34,5 +34,4 @@ ghost use Rattle.routing.specs.Examples.{Worked};
 // What the definitions of space and first match give on worked examples.
 pub fn worked_examples()
     ensures { Worked }
-{
-}
+{}
