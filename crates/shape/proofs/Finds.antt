@@ -1,5 +1,6 @@
 -- What a message reaches. Assumes nothing.
 use Rattle.std.proofs.Common.{◌≡◌, ℕ, zero, suc, ◌+◌, ◌-◌, ◌<◌, ◌≤◌, Bool, true, false, cond, ◌&&◌, leb, List, [], ◌∷◌, map, length, take, drop, Some, None, filter, Option, sym, refl, ap, ◌∙◌, ⊎_elim, arith, drop-cons, MatchOption}
+use Rattle.std.specs.Option.{option_and_then}
 use Rattle.std.specs.List.{AllByRecursion}
 use Rattle.std.proofs.ByRecursion.{All-weaker, all_kept_by}
 use Rattle.std.proofs.lemmas.Bool.{cond-true, cond-false, cond_both, cases_lt, true≢false}
@@ -7,7 +8,7 @@ use Rattle.std.proofs.lemmas.Bool.Decides.{nat_tests}
 use Rattle.routing.specs.declared.ends.Ends.{Ends}
 use Rattle.routing.specs.Rules.{holds, matches, matching}
 use Rattle.shape.specs.Shapes.{Shape, part, piece, grown}
-use Rattle.shape.specs.Meaning.{Proper, branch_at, onward, reached, marks_in, LookUpIsRight}
+use Rattle.shape.specs.Meaning.{Proper, branch_at, reached, marks_in, LookUpIsRight}
 use Rattle.shape.proofs.Cuts.{Up}
 use Rattle.shape.proofs.Runs.{runs, Level, Low}
 use Rattle.shape.proofs.Canon.{Numbered, ends, field, held, some, some_none, cell, canon, cuts_of, cuts_up, ends_cuts, kept_same, level, low, number, passes, beneath, Whole}
@@ -103,7 +104,7 @@ found_canon d (suc k) m (v ∷ vs) T e l w =
     let found : branch_at v (canon (suc k) m T) ≡ cond (some H) (Some (G H)) None =
     at_runs (passes m T) (beneath m T G) v C (cuts_up m T) (level m T G C (cuts_up m T) (ends_cuts m T)) (low m T C (ends_cuts m T)) in
     rw (step, found)
-    (cond_both (some H) (Some (G H)) None (λ o. Found (onward (reached (take k vs)) o) M T)
+    (cond_both (some H) (Some (G H)) None (λ o. Found (option_and_then (reached (take k vs)) o) M T)
     (λ t. found_less (reached (take k vs) (G H)) M H T t (found_canon d k (suc m) vs H (omega arith) (omega arith) (all_kept_by _ (Whole d) T w)))
     (λ t. ap (filter (meant k (suc m) vs)) (some_none H t)))
 

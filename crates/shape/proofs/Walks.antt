@@ -1,5 +1,6 @@
 -- The cells that a walk meets, in its order. Assumes nothing.
 use Rattle.std.proofs.Common.{◌≡◌, ℕ, suc, ◌+◌, ◌<◌, ◌≤◌, true, false, cond, List, [], ◌∷◌, ◌++◌, map, length, Some, None, Option, sym, refl, ap, ◌∙◌, subst, ap₂, inl, inr, arith, MatchOption}
+use Rattle.std.specs.Option.{option_and_then}
 use Rattle.std.specs.List.{AllZip, AllByRecursion}
 use Rattle.std.proofs.lemmas.List.{append_assoc, map-append, length-map, take_all}
 use Rattle.std.proofs.ByRecursion.{All-append, All-map, All-weaker}
@@ -7,7 +8,7 @@ use Rattle.std.proofs.lemmas.Bool.{cond_both, and_parts, and_from, le-leb, leb-t
 use Rattle.routing.specs.declared.ends.Ends.{Ends}
 use Rattle.routing.specs.Rules.{matches, matching}
 use Rattle.shape.specs.Shapes.{Shape, bare, part, piece, rule, grown}
-use Rattle.shape.specs.Meaning.{Upward, Inside, Proper, Tidy, onward, reached, marks_in, Cell, within, box_of, cells, corner, Before, Ascending, Right, CellsAreRight}
+use Rattle.shape.specs.Meaning.{Upward, Inside, Proper, Tidy, reached, marks_in, Cell, within, box_of, cells, corner, Before, Ascending, Right, CellsAreRight}
 use Rattle.shape.proofs.Orders.{order_kept}
 use Rattle.shape.proofs.Finds.{past, here, look_up}
 
@@ -80,7 +81,7 @@ module _ (e : Ends) (es : List Ends) (lo a b : ℕ) (below rest : Shape) (k : lo
       reach (x ∷ v) l m =
           let p = and_parts _ _ m in
           let q = and_parts _ _ p.0 in
-          subst (λ o. MatchOption (onward (reached v) o) ⊥ (λ l. marks_in l ≡ c.marks))
+          subst (λ o. MatchOption (option_and_then (reached v) o) ⊥ (λ l. marks_in l ≡ c.marks))
           (sym (here x a b below rest (leb-true a x q.0) (leb-true x b q.1))) (s.reaches v (omega arith) p.1)
 
   -- from a node with a lower branch too
@@ -102,7 +103,7 @@ module _ (e : Ends) (es : List Ends) (lo a b : ℕ) (below rest : Shape) (k : lo
       reach (g ∷ box) [] n f l m r = absurd (omega arith)
       reach (g ∷ box) (x ∷ v) n f l m r =
           let q = leb-true _ x (and_parts _ _ (and_parts _ _ m).0).0 in
-          subst (λ o. MatchOption (onward (reached v) o) ⊥ (λ l. marks_in l ≡ c.marks)) (sym (past x a b below rest (λ _. omega arith))) r
+          subst (λ o. MatchOption (option_and_then (reached v) o) ⊥ (λ l. marks_in l ≡ c.marks)) (sym (past x a b below rest (λ _. omega arith))) r
 
 -- The walk sees every cell.
 all_seen : (es : List Ends) (lo : ℕ) (sh : Shape) → Tidy (length es) lo sh → AllByRecursion (Seen es lo sh) (cells es [] sh)

@@ -1,5 +1,6 @@
 -- What the tree of a list of rules says. Assumes nothing.
 use Rattle.std.specs.Prelude.{◌≡◌, ℕ, zero, suc, ◌+◌, ◌<◌, ◌≤◌, Bool, true, false, cond, ◌&&◌, ◌⊎◌, List, [], ◌∷◌, ◌++◌, map, length, take, Some, None, Option, MatchOption, nat_le}
+use Rattle.std.specs.Option.{option_and_then}
 use Rattle.std.specs.List.{AllZip, ContainsAt, AllByRecursion}
 use Rattle.routing.specs.declared.ends.Ends.{Ends}
 use Rattle.routing.specs.Rules.{matches, matching}
@@ -33,15 +34,10 @@ branch_at v bare = None
 branch_at v (part (piece a b) below rest) = cond (nat_le a v && nat_le v b) (Some below) (branch_at v rest)
 branch_at v (part (rule i) below rest) = branch_at v rest
 
--- a step from where one has come, if anywhere
-abbrev pub onward : (Shape → Option Shape) → Option Shape → Option Shape
-onward f None = None
-onward f (Some sh) = f sh
-
 -- the cell that values reach, one for each field, if there is a branch for each of them
 abbrev pub reached : List ℕ → Shape → Option Shape
 reached [] sh = Some sh
-reached (v ∷ vs) sh = onward (reached vs) (branch_at v sh)
+reached (v ∷ vs) sh = option_and_then (reached vs) (branch_at v sh)
 
 -- the marks of a cell
 abbrev pub marks_in : Shape → List ℕ

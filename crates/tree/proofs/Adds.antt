@@ -1,10 +1,9 @@
 -- A mark at the end of a cell. Assumes nothing.
 use Rattle.std.proofs.Common.{◌≡◌, ℕ, ◌+◌, ◌<◌, sym, refl, ap, ◌∙◌, subst, arith}
 use Rattle.shape.specs.Shapes.{Label, rule, Shape, bare, part, branches_of, marks_of, add_mark}
-use Rattle.tree.specs.Memory.{rec, with_next, look, Written, Pushed}
-use Rattle.tree.specs.Links.{Records, none, item, shape, root, place, Fits, Became}
+use Rattle.tree.specs.Memory.{rec, Written, Pushed}
+use Rattle.tree.specs.Links.{Records, none, item, shape, place, Fits, Became}
 use Rattle.tree.specs.declared.records.Store.{Store}
-use Rattle.tree.proofs.Places.{one_self, live_most}
 use Rattle.tree.proofs.Frames.{empty, Found, unchanged, topped}
 use Rattle.tree.proofs.Changing.{Walk, inserted, stands, ended}
 
@@ -34,16 +33,13 @@ pub last_mark :
     {s₀ : Store} {first i : ℕ} {t : Records} {s : Store} {at n bel next : ℕ} {l : Label} (s₂ s₃ : Store) (new : ℕ)
     → (W : Walk s₀ 0 first (add_mark i) t s at n (add_mark i)) → (F : Found at l bel next W.rest) → next ≡ 0xffff_ffff → new < 0xffff_ffff
     → Pushed s s₂ (place 0 new) (rec (rule i) 0xffff_ffff 0xffff_ffff)
-    → Written s₂ s₃ (place 0 at) (with_next (look s₂ (place 0 at)) new)
+    → Written s₂ s₃ (place 0 at) (rec l bel new)
     → (t' : Records) × Became s₀ s₃ 0 t (add_mark i (shape t)) first t'
 last_mark {s₀} {first} {i} {t} {s} {at} {n} {bel} {next} {l} s₂ s₃ new W F e low P Q =
     let S = stands W F in
     let z : F.rest ≡ none = empty s 0 F.rest S.holds.3 (F.rest_from ∙ e) in
-    let p = place 0 at in
-    let was : look s₂ p ≡ rec l (root F.below) (root F.rest) =
-    P.keeps p (omega (arith, S.own p, one_self p, P.alive p, live_most s₂ p)) ∙ S.holds.1 in
     ended W F s₃ _ _ (ap (λ r. part l (shape F.below) (add_mark i (shape r))) z ∙ ap (λ r. part l (shape F.below) (part (rule i) bare (shape r))) (sym z))
     (inserted s s s₂ s₃ 0 at new 0xffff_ffff l l (rule i) F.below F.rest none S (unchanged s _ none tt) refl low
     (subst (λ x. Pushed s s₂ (place 0 new) (rec (rule i) 0xffff_ffff x)) (sym (F.rest_from ∙ e)) P)
-    (subst (λ x. Written s₂ s₃ p (with_next x new)) was Q)
+    (subst (λ x. Written s₂ s₃ (place 0 at) (rec l x new)) (sym F.below_from) Q)
     refl refl)

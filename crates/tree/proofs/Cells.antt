@@ -1,18 +1,17 @@
 -- The turns of a walk over the cells. Assumes nothing.
-use Rattle.std.proofs.Common.{◌≡◌, ℕ, zero, suc, ◌+◌, ◌-◌, ◌<◌, ◌≤◌, true, false, List, [], ◌∷◌, ◌++◌, map, length, get_or, take, drop, set, replicate, sym, refl, ap, ◌∙◌, subst, ap₂, append_assoc, append-nil, arith}
+use Rattle.std.proofs.Common.{◌≡◌, ℕ, zero, suc, ◌+◌, ◌-◌, ◌<◌, ◌≤◌, true, false, List, [], ◌∷◌, ◌++◌, map, length, get_or, slice_get, Some, take, drop, set, replicate, sym, refl, ap, ◌∙◌, subst, ap₂, append_assoc, append-nil, arith}
 use Rattle.std.proofs.lemmas.List.{get_or-set_other, take_more, drop_more, get_or-set_same, drop_all, map-append}
 use Rattle.std.proofs.lemmas.Bool.{cond-true, cond-false}
 use Rattle.shape.specs.Shapes.{Label, piece, Shape, bare, part}
 use Rattle.shape.specs.Meaning.{within, box_of, Cell, cells, marks_in}
-use Rattle.tree.specs.Memory.{rec, live, look}
+use Rattle.tree.specs.Memory.{in_use}
 use Rattle.tree.specs.Links.{Records, item, shape}
 use Rattle.tree.specs.Reads.{Stood}
 use Rattle.tree.specs.Tours.{top_box, later, boxes, Stack, waiting, Touring, Below, Reached}
 use Rattle.tree.specs.declared.records.Store.{Store}
 use Rattle.routing.specs.declared.ends.Ends.{Ends}
-use Rattle.tree.proofs.Places.{place_branch}
-use Rattle.tree.proofs.Copies.{at_branch}
-use Rattle.tree.proofs.Frames.{Found, found, taken, empty}
+use Rattle.tree.specs.declared.records.Branch.{Branch}
+use Rattle.tree.proofs.Frames.{Found, branch_inside, found_branch, empty}
 use Rattle.tree.proofs.Recovers.{read_at, read_is}
 use Rattle.tree.proofs.Reading.{at_record, stood_below, stood_rest}
 
@@ -43,11 +42,11 @@ waits n s d path zero = 0
 waits n s d path (suc j) = work (d - j) (later (shape (read_at n s (d - j) (get_or path j 0)))) + waits n s d path j
 
 -- a tree that stands is read off
-read_stood : (s : Store) (d at : ℕ) (t : Records) → Stood s d at t → read_at (s.used + s.marked) s d at ≡ t
-read_stood s d at t S = ap (read_at (s.used + s.marked) s d) (sym S.from) ∙ read_is (s.used + s.marked) s d t S.stands.holds S.steps
+read_stood : (s : Store) (d at : ℕ) (t : Records) → Stood s d at t → read_at (in_use s) s d at ≡ t
+read_stood s d at t S = ap (read_at (in_use s) s d) (sym S.from) ∙ read_is (in_use s) s d t S.stands.holds S.steps
 
 -- what waits is read off too
-waits_is : (s : Store) (d : ℕ) (path lows : List ℕ) (rs : List Records) → Stack s d path lows rs → waits (s.used + s.marked) s d path (length rs) ≡ to_do d rs
+waits_is : (s : Store) (d : ℕ) (path lows : List ℕ) (rs : List Records) → Stack s d path lows rs → waits (in_use s) s d path (length rs) ≡ to_do d rs
 waits_is s d path lows [] h = refl
 waits_is s d path lows (r ∷ rs) h =
     ap₂ (λ t n. work (d - length rs) (later (shape t)) + n) (read_stood s (d - length rs) (get_or path (length rs) 0) r h.0) (waits_is s d path lows rs h.3)
@@ -105,7 +104,7 @@ measure {es = es} T = work (length es - length T.stack) (shape T.node) + to_do (
 
 -- as the records have them
 abbrev pub turns : Store → (d : ℕ) (path : List ℕ) (k at : ℕ) → ℕ
-turns s d path k at = work (d - k) (shape (read_at (s.used + s.marked) s (d - k) at)) + waits (s.used + s.marked) s d path k
+turns s d path k at = work (d - k) (shape (read_at (in_use s) s (d - k) at)) + waits (in_use s) s d path k
 
 -- the records tell the turns that are left
 turns_are : {s : Store} {es : List Ends} {path lows : List ℕ} {k at : ℕ} {cs : List Cell} (T : Touring s es path lows k at cs) → turns s (length es) path k at ≡ measure T
@@ -119,17 +118,17 @@ module _ {s : Store} {es : List Ends} {path lows : List ℕ} {k at : ℕ} {cs : 
     more : length T.stack < length es
     more = omega (arith, T.height)
 
-    -- the branch at `at` is taken, and was read
-    pub alive : (at ≡ 0xffff_ffff → ⊥) → 0 < live s at
-    alive ne =
+    -- the branch at `at` lies in its slice
+    pub there : (at ≡ 0xffff_ffff → ⊥) → at < length s.branches.records.now
+    there ne =
         let m = more in
-        rw (place_branch (length es - length T.stack) at (λ z. omega arith)) at (taken s (length es - length T.stack) at T.node T.stood.stands T.stood.from ne)
+        branch_inside s (length es - length T.stack) at T.node T.stood.from ne T.stood.stands (λ z. omega arith)
 
     -- what was read there
-    pub seen : {low high bel next : ℕ} → (at ≡ 0xffff_ffff → ⊥) → look s at ≡ rec (piece low high) bel next → Found at (piece low high) bel next T.node
+    pub seen : {b : Branch} → (at ≡ 0xffff_ffff → ⊥) → slice_get s.branches.records.now at ≡ Some b → Found at (piece b.low b.high) b.below b.next T.node
     seen ne read =
         let m = more in
-        found s (length es - length T.stack) at _ _ _ T.node T.stood.stands.holds T.stood.from ne (at_branch s (length es - length T.stack) at _ (λ z. omega arith) read)
+        found_branch s (length es - length T.stack) at T.node T.stood.from ne T.stood.stands.holds (λ z. omega arith) read
 
     module _ {l : Label} {bel next : ℕ} (F : Found at l bel next T.node) where
       parted : cells (drop (length T.stack) es) (boxes T.stack) (part l (shape F.below) (shape F.rest)) ++ waiting es T.stack ≡ cs
@@ -201,29 +200,28 @@ module _ {s : Store} {es : List Ends} {path lows : List ℕ} {k at : ℕ} {cs : 
 
 -- Up, and on to what comes after the branch above.
 module _ (s : Store) (es : List Ends) (path lows : List ℕ) where
-  -- the branch above is taken
-  pub top_alive : (rs : List Records) → Stack s (length es) path lows rs → length rs ≤ length es → 0 < length rs → 0 < live s (get_or path (length rs - 1) 0)
-  top_alive [] A le pos = absurd (omega arith)
-  top_alive (r ∷ rs) A le pos =
-      let i = get_or path (length rs) 0 in
+  -- the branch above lies in its slice
+  pub top_there : (rs : List Records) → Stack s (length es) path lows rs → length rs ≤ length es → 0 < length rs → get_or path (length rs - 1) 0 < length s.branches.records.now
+  top_there [] A le pos = absurd (omega arith)
+  top_there (r ∷ rs) A le pos =
       let z : suc (length rs) - 1 ≡ length rs = omega arith in
-      subst (λ j. 0 < live s (get_or path j 0)) (sym z)
-      (rw (place_branch (length es - length rs) i (λ z. omega arith)) at (taken s (length es - length rs) i r A.0.stands A.0.from (λ z. omega (arith, A.1))))
+      subst (λ j. get_or path j 0 < length s.branches.records.now) (sym z)
+      (branch_inside s (length es - length rs) (get_or path (length rs) 0) r A.0.from (λ z. omega (arith, A.1)) A.0.stands (λ z. omega arith))
 
   -- after it comes the next one
   pub up :
-      (cs : List Cell) (low high bel next : ℕ) (rs : List Records) → Stack s (length es) path lows rs → length rs ≤ length es → 0 < length rs → waiting es rs ≡ cs
-      → look s (get_or path (length rs - 1) 0) ≡ rec (piece low high) bel next
-      → (U : Touring s es path lows (length rs - 1) next cs) × (turns s (length es) path (length rs - 1) next ≡ to_do (length es) rs)
-  up cs low high bel next [] A le pos come read = absurd (omega arith)
-  up cs low high bel next (r ∷ rs) A le pos come read =
+      (cs : List Cell) (b : Branch) (rs : List Records) → Stack s (length es) path lows rs → length rs ≤ length es → 0 < length rs → waiting es rs ≡ cs
+      → slice_get s.branches.records.now (get_or path (length rs - 1) 0) ≡ Some b
+      → (U : Touring s es path lows (length rs - 1) b.next cs) × (turns s (length es) path (length rs - 1) b.next ≡ to_do (length es) rs)
+  up cs b [] A le pos come read = absurd (omega arith)
+  up cs b (r ∷ rs) A le pos come read =
       let d = length es - length rs in
       let i = get_or path (length rs) 0 in
       let z : suc (length rs) - 1 ≡ length rs = omega arith in
-      let read' = subst (λ j. look s (get_or path j 0) ≡ rec (piece low high) bel next) z read in
-      let F = found s d i (piece low high) bel next r A.0.stands.holds A.0.from (λ z. omega (arith, A.1)) (at_branch s d i _ (λ z. omega arith) read') in
+      let read' = subst (λ j. slice_get s.branches.records.now (get_or path j 0) ≡ Some b) z read in
+      let F = found_branch s d i r A.0.from (λ z. omega (arith, A.1)) A.0.stands.holds (λ z. omega arith) read' in
       let e : later (shape r) ≡ shape F.rest = ap (λ t. later (shape t)) F.is in
-      let U : Touring s es path lows (suc (length rs) - 1) next cs =
+      let U : Touring s es path lows (suc (length rs) - 1) b.next cs =
       record {
         node = F.rest;
         stack = rs;
@@ -237,23 +235,23 @@ module _ (s : Store) (es : List Ends) (path lows : List ℕ) where
 module _ {s : Store} {es : List Ends} {path lows : List ℕ} {k at : ℕ} {cs : List Cell} (T : Touring s es path lows k at cs) where
   -- the same from an empty node, below k branches
   module _ (lt : k < length es) (pos : 0 < k) where
-    -- the branch above is taken
-    pub rise_alive : 0 < live s (get_or path (k - 1) 0)
-    rise_alive =
-        subst (λ j. 0 < live s (get_or path (j - 1) 0)) T.height (top_alive s es path lows T.stack T.above (omega (arith, T.height)) (omega (arith, T.height)))
+    -- the branch above lies in its slice
+    pub rise_there : get_or path (k - 1) 0 < length s.branches.records.now
+    rise_there =
+        subst (λ j. get_or path (j - 1) 0 < length s.branches.records.now) T.height (top_there s es path lows T.stack T.above (omega (arith, T.height)) (omega (arith, T.height)))
 
     -- the walk goes on after it, with a turn less
     pub rise :
-        {low high bel next : ℕ} → at ≡ 0xffff_ffff → look s (get_or path (k - 1) 0) ≡ rec (piece low high) bel next
-        → (U : Touring s es path lows (k - 1) next cs) × (turns s (length es) path (k - 1) next < turns s (length es) path k at)
-    rise {low} {high} {bel} {next} e read =
+        {b : Branch} → at ≡ 0xffff_ffff → slice_get s.branches.records.now (get_or path (k - 1) 0) ≡ Some b
+        → (U : Touring s es path lows (k - 1) b.next cs) × (turns s (length es) path (k - 1) b.next < turns s (length es) path k at)
+    rise {b} e read =
         let h = T.height in
-        let (U, less) = up s es path lows cs low high bel next T.stack T.above (omega arith) (omega arith) (emptied T lt e) (subst (λ j. look s (get_or path (j - 1) 0) ≡ rec (piece low high) bel next) (sym h) read) in
+        let (U, less) = up s es path lows cs b T.stack T.above (omega arith) (omega arith) (emptied T lt e) (subst (λ j. slice_get s.branches.records.now (get_or path (j - 1) 0) ≡ Some b) (sym h) read) in
         let one-turn : measure T ≡ 1 + to_do (length es) T.stack =
         ap (λ t. work (length es - length T.stack) (shape t) + to_do (length es) T.stack) (empty s (length es - length T.stack) T.node T.stood.stands.holds (T.stood.from ∙ e))
         ∙ ap (λ n. n + to_do (length es) T.stack) (work_bare (length es - length T.stack) (omega arith)) in
-        let same : turns s (length es) path (length T.stack - 1) next ≡ turns s (length es) path (k - 1) next = ap (λ j. turns s (length es) path (j - 1) next) h in
-        (subst (λ j. Touring s es path lows (j - 1) next cs) h U, omega (arith, less, one-turn, same, turns_are T))
+        let same : turns s (length es) path (length T.stack - 1) b.next ≡ turns s (length es) path (k - 1) b.next = ap (λ j. turns s (length es) path (j - 1) b.next) h in
+        (subst (λ j. Touring s es path lows (j - 1) b.next cs) h U, omega (arith, less, one-turn, same, turns_are T))
 
   -- above an empty root nothing waits
   pub ended : k ≡ 0 → 0 < length es → at ≡ 0xffff_ffff → cs ≡ []
@@ -282,17 +280,17 @@ module _ {s : Store} {es : List Ends} {path lows : List ℕ} {k at : ℕ} {cs : 
 
 -- From a cell on to what comes after the branch above it.
 module _ {s : Store} {es : List Ends} {path lows : List ℕ} {cs : List Cell} (B : Below s es path lows cs) (pos : 0 < length es) where
-  -- the branch above is taken
-  pub leave_alive : 0 < live s (get_or path (length es - 1) 0)
-  leave_alive =
-      subst (λ j. 0 < live s (get_or path (j - 1) 0)) B.height (top_alive s es path lows B.stack B.above (omega (arith, B.height)) (omega (arith, B.height)))
+  -- the branch above lies in its slice
+  pub leave_there : get_or path (length es - 1) 0 < length s.branches.records.now
+  leave_there =
+      subst (λ j. get_or path (j - 1) 0 < length s.branches.records.now) B.height (top_there s es path lows B.stack B.above (omega (arith, B.height)) (omega (arith, B.height)))
 
   -- the walk goes on after it
-  pub leave : {low high bel next : ℕ} → look s (get_or path (length es - 1) 0) ≡ rec (piece low high) bel next → Touring s es path lows (length es - 1) next cs
-  leave {low} {high} {bel} {next} read =
+  pub leave : {b : Branch} → slice_get s.branches.records.now (get_or path (length es - 1) 0) ≡ Some b → Touring s es path lows (length es - 1) b.next cs
+  leave {b} read =
       let h = B.height in
-      subst (λ j. Touring s es path lows (j - 1) next cs) h
-      (up s es path lows cs low high bel next B.stack B.above (omega arith) (omega arith) B.come (subst (λ j. look s (get_or path (j - 1) 0) ≡ rec (piece low high) bel next) (sym h) read)).0
+      subst (λ j. Touring s es path lows (j - 1) b.next cs) h
+      (up s es path lows cs b B.stack B.above (omega arith) (omega arith) B.come (subst (λ j. slice_get s.branches.records.now (get_or path (j - 1) 0) ≡ Some b) (sym h) read)).0
 
 -- a walk begins at the root
 pub set_out : {s : Store} {es : List Ends} {path lows : List ℕ} {first : ℕ} (t : Records) → Stood s (length es) first t → Touring s es path lows 0 first (cells es [] (shape t))

@@ -1,12 +1,13 @@
 -- A loop along the branches of a node, or the marks of a cell, that changes them in place. Assumes nothing.
-use Rattle.std.proofs.Common.{◌≡◌, ℕ, ◌+◌, ◌-◌, ◌<◌, ◌≤◌, sym, refl, ap, ◌∙◌, subst, arith}
-use Rattle.shape.specs.Shapes.{Label, piece, Shape, bare, part, branch_of, mark_of, branches_of, marks_of, siblings}
-use Rattle.tree.specs.Memory.{Rec, rec, label_of, below_of, next_of, one, live, look, Written, Pushed}
+use Rattle.std.proofs.Common.{◌≡◌, ℕ, ◌-◌, ◌<◌, ◌≤◌, length, slice_get, Some, sym, refl, ap, ◌∙◌, subst, arith}
+use Rattle.shape.specs.Shapes.{Label, piece, rule, Shape, bare, part, branch_of, mark_of, branches_of, marks_of, siblings}
+use Rattle.tree.specs.Memory.{rec, one, live, look, Written, Pushed, in_use}
 use Rattle.tree.specs.Links.{Records, none, item, shape, root, place, Holds, count, Stands, Changed, Fits, Became, chain}
 use Rattle.tree.specs.declared.records.Store.{Store}
+use Rattle.tree.specs.declared.records.Branch.{Branch}
+use Rattle.tree.specs.declared.records.Mark.{Mark}
 use Rattle.tree.proofs.Places.{one_self, live_most, place_branch}
-use Rattle.tree.proofs.Copies.{at_branch}
-use Rattle.tree.proofs.Frames.{kept, empty, Found, found, taken, chain_is, few, unchanged, then}
+use Rattle.tree.proofs.Frames.{kept, empty, Found, taken, branch_inside, found_branch, mark_inside, found_mark, chain_is, few, unchanged, then}
 
 -- A change in what follows a record, which it still follows at the same index.
 pub followed :
@@ -92,48 +93,32 @@ pub record Walk (s₀ : Store) (d first : ℕ) (g₀ : Shape → Shape) (t : Rec
 
 -- the loop begins
 pub start :
-    (s : Store) (d first : ℕ) (g : Shape → Shape) (t : Records) → Fits s d first t (g (shape t)) → Walk s d first g t s first (s.used + s.marked) g
+    (s : Store) (d first : ℕ) (g : Shape → Shape) (t : Records) → Fits s d first t (g (shape t)) → Walk s d first g t s first (in_use s) g
 start s d first g t K =
     record { rest = t; fits = K; turns = omega (arith, K.steps, few (shape t)); finish = λ s' r' B. (r', B) }
 
-pub alive :
+-- What is read on the way.
+module _
     {s₀ : Store} {d first : ℕ} {g₀ : Shape → Shape} {t : Records} {s : Store} {at n : ℕ} {g : Shape → Shape}
-    → Walk s₀ d first g₀ t s at n g → (at ≡ 0xffff_ffff → ⊥) → 0 < live s (place d at)
-alive {d = d} {s = s} {at = at} W ne = taken s d at W.rest W.fits.stands W.fits.from ne
+    (W : Walk s₀ d first g₀ t s at n g) (ne : at ≡ 0xffff_ffff → ⊥) where
+  -- the branch at `at` is taken
+  pub alive_branch : 0 < d → 0 < live s at
+  alive_branch pos = rw (place_branch d at (λ z. omega arith)) at (taken s d at W.rest W.fits.stands W.fits.from ne)
 
--- it is a branch
-pub alive_branch :
-    {s₀ : Store} {d first : ℕ} {g₀ : Shape → Shape} {t : Records} {s : Store} {at n : ℕ} {g : Shape → Shape}
-    → Walk s₀ d first g₀ t s at n g → 0 < d → (at ≡ 0xffff_ffff → ⊥) → 0 < live s at
-alive_branch {d = d} {at = at} W pos ne = rw (place_branch d at (λ z. omega arith)) at (alive W ne)
+  -- it lies in its slice
+  pub there_branch : 0 < d → at < length s.branches.records.now
+  there_branch pos = branch_inside s d at W.rest W.fits.from ne W.fits.stands (λ z. omega arith)
 
--- what is read at `at`
-pub see :
-    {s₀ : Store} {d first : ℕ} {g₀ : Shape → Shape} {t : Records} {s : Store} {at n : ℕ} {g : Shape → Shape} (l : Label) (bel next : ℕ)
-    → (W : Walk s₀ d first g₀ t s at n g) → (at ≡ 0xffff_ffff → ⊥) → look s (place d at) ≡ rec l bel next
-    → Found at l bel next W.rest
-see {d = d} {s = s} {at = at} l bel next W ne read =
-    found s d at l bel next W.rest W.fits.stands.holds W.fits.from ne read
+  -- and says what was read
+  pub see_branch : {b : Branch} → 0 < d → slice_get s.branches.records.now at ≡ Some b → Found at (piece b.low b.high) b.below b.next W.rest
+  see_branch pos read = found_branch s d at W.rest W.fits.from ne W.fits.stands.holds (λ z. omega arith) read
 
--- the same of a branch
-pub see_branch :
-    {s₀ : Store} {d first : ℕ} {g₀ : Shape → Shape} {t : Records} {s : Store} {at n : ℕ} {g : Shape → Shape} (low high bel next : ℕ)
-    → (W : Walk s₀ d first g₀ t s at n g) → 0 < d → (at ≡ 0xffff_ffff → ⊥) → look s at ≡ rec (piece low high) bel next
-    → Found at (piece low high) bel next W.rest
-see_branch {d = d} {s = s} {at = at} low high bel next W pos ne read =
-    see (piece low high) bel next W ne (at_branch s d at _ (λ z. omega arith) read)
+  -- so does a mark
+  pub there_mark : d ≡ 0 → at < length s.marks.records.now
+  there_mark z = mark_inside s d at W.rest W.fits.from ne W.fits.stands z
 
--- the same by its link alone
-pub see_next :
-    {s₀ : Store} {d first : ℕ} {g₀ : Shape → Shape} {t : Records} {s : Store} {at n : ℕ} {g : Shape → Shape} (next : ℕ)
-    → (W : Walk s₀ d first g₀ t s at n g) → (at ≡ 0xffff_ffff → ⊥) → next ≡ next_of (look s (place d at))
-    → Found at (label_of (look s (place d at))) (below_of (look s (place d at))) next W.rest
-see_next {d = d} {s = s} {at = at} next W ne e =
-    see _ _ next W ne (whole (look s (place d at)) ∙ ap (rec (label_of (look s (place d at))) (below_of (look s (place d at)))) (sym e))
-  where
-    -- a record is its parts
-    whole : (x : Rec) → x ≡ rec (label_of x) (below_of x) (next_of x)
-    whole (rec l b m) = refl
+  pub see_mark : {m : Mark} → d ≡ 0 → slice_get s.marks.records.now at ≡ Some m → Found at (rule m.rule) 0xffff_ffff m.next W.rest
+  see_mark z read = found_mark s d at W.rest W.fits.from ne W.fits.stands.holds z read
 
 module _
     {s₀ : Store} {d first : ℕ} {g₀ : Shape → Shape} {t : Records} {s : Store} {at n : ℕ} {g : Shape → Shape} {l : Label} {bel next : ℕ}

@@ -1,21 +1,13 @@
 -- The loop of copy_node. Assumes nothing.
 use Rattle.std.proofs.Common.{◌≡◌, ℕ, ◌+◌, ◌-◌, ◌<◌, ◌≤◌, sym, refl, ap, ◌∙◌, subst, arith}
 use Rattle.shape.specs.Shapes.{Label, branches_of, marks_of, siblings}
-use Rattle.tree.specs.Memory.{one, Rec, rec, next_of, with_next, mark_place, live, look, Written, Pushed}
+use Rattle.tree.specs.Memory.{one, Rec, rec, next_of, with_next, mark_place, live, look, Written, Pushed, in_use}
 use Rattle.tree.specs.Links.{Records, none, item, shape, root, place, Holds, count, Changed, Copiable, Copied, CopiedOne, chain}
 use Rattle.tree.specs.declared.records.Store.{Store}
 use Rattle.tree.proofs.Places.{one_self, live_most, place_mark, place_branch}
 use Rattle.tree.proofs.Frames.{kept, empty, opened, Found, chain_is, few, unchanged, then, topped}
 
 -- copy_branch
-
--- A branch's place is its index, and a mark's is mark_place of it.
-pub at_branch : (s : Store) (d at : ℕ) (x : Rec) → (d ≡ 0 → ⊥) → look s at ≡ x → look s (place d at) ≡ x
-at_branch s d at x n e = ap (look s) (place_branch d at n) ∙ e
-
--- and of a mark
-pub at_mark : (s : Store) (d at : ℕ) (x : Rec) → d ≡ 0 → look s (mark_place at) ≡ x → look s (place d at) ≡ x
-at_mark s d at x z e = ap (look s) (place_mark d at z) ∙ e
 
 -- a new branch at its place
 pub new_branch : (s s' : Store) (d at : ℕ) (x : Rec) → (d ≡ 0 → ⊥) → Pushed s s' at x → Pushed s s' (place d at) x
@@ -28,6 +20,10 @@ written_branch s s' d at x n W = subst (λ p. Written s s' p x) (sym (place_bran
 -- a new mark at its place
 pub new_mark : (s s' : Store) (d at : ℕ) (x : Rec) → d ≡ 0 → Pushed s s' (mark_place at) x → Pushed s s' (place d at) x
 new_mark s s' d at x z P = subst (λ p. Pushed s s' p x) (sym (place_mark d at z)) P
+
+-- a mark that was written at its place
+pub written_mark : (s s' : Store) (d at : ℕ) (x : Rec) → d ≡ 0 → Written s s' (mark_place at) x → Written s s' (place d at) x
+written_mark s s' d at x z W = subst (λ p. Written s s' p x) (sym (place_mark d at z)) W
 
 -- What is below a record that was read can be copied too.
 pub below_copiable :
@@ -259,7 +255,7 @@ pub record Begun (s s₁ : Store) (d first head at : ℕ) (t : Records) : Type 0
   pub new : Records
   pub is : t ≡ item first label below rest
   pub one : CopiedOne s s₁ d label below head new
-  pub ready : Ready s₁ d at head (s₁.used + s₁.marked) rest label new
+  pub ready : Ready s₁ d at head (in_use s₁) rest label new
 
 -- the loop begins after the first record
 pub begun :
@@ -278,7 +274,7 @@ begun s s₁ d first head at t K ne copies e =
       is = O.is;
       one = C;
       ready =
-          rest_ready s s₁ d first head O.label O.below O.rest u J C at (s₁.used + s₁.marked) e
+          rest_ready s s₁ d first head O.label O.below O.rest u J C at (in_use s₁) e
           (omega (arith, J.steps, few (shape (item first O.label O.below O.rest)), C.change.branches, C.change.marks));
     }
 

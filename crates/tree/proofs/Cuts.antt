@@ -30,7 +30,7 @@ module _
   e = cut_here x low high (shape F.below) (shape F.rest) l h
 
   -- there is room for the upper part and the copy
-  pub room : s.used + (1 + branches_of (shape F.below)) ≤ space (length s.branches.now)
+  pub room : s.branches.taken + (1 + branches_of (shape F.below)) ≤ space (length s.branches.records.now)
   room = omega (arith, (fits W F).room, ap branches_of e)
 
   -- what is below can be copied

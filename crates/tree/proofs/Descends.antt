@@ -1,11 +1,12 @@
 -- The rest of a rule, below the branches of a node. Assumes nothing.
-use Rattle.std.proofs.Common.{◌≡◌, ℕ, ◌+◌, ◌-◌, ◌<◌, ◌≤◌, Bool, true, false, cond, ◌&&◌, eqb, leb, ◌⊎◌, List, [], ◌∷◌, length, get_or, take, drop, Some, None, sym, refl, ap, ◌∙◌, subst, arith}
-use Rattle.std.proofs.lemmas.Bool.{cond-true, cond-false, le-leb, and_from, cond_both, ne_eqb}
-use Rattle.std.proofs.lemmas.Bool.Decides.{nat_tests}
+use Rattle.std.proofs.Common.{◌≡◌, ℕ, ◌+◌, ◌-◌, ◌<◌, true, false, ◌&&◌, leb, List, [], ◌∷◌, length, get_or, take, drop, sym, refl, ap, ◌∙◌, subst, arith}
+use Rattle.std.proofs.lemmas.Bool.{cond-true, cond-false, cond_both, ne_eqb}
 use Rattle.std.proofs.lemmas.List.{take_rest}
+use Rattle.std.specs.List.{AllByRecursion}
 use Rattle.shape.specs.Shapes.{Label, piece, rule, Shape, bare, part, branches_of, marks_of, cut_at, under, cut_above, ready, insert}
+use Rattle.shape.specs.Meaning.{Upward}
 use Rattle.tree.specs.Memory.{rec, live, Written}
-use Rattle.tree.specs.Links.{Records, item, shape, root, place, Stands, Changed, Fits, Became}
+use Rattle.tree.specs.Links.{Records, item, shape, root, place, Stands, Changed, Fits, Became, Intervals}
 use Rattle.tree.specs.declared.records.Store.{Store}
 use Rattle.routing.specs.declared.ends.Ends.{Ends}
 use Rattle.tree.proofs.Places.{one_self, live_most, place_branch}
@@ -83,19 +84,16 @@ module _
     (F : Found at (piece a b) bel next W.rest) where
   -- a branch that is not within the interval stays
   pub under_past :
-      (a < low) ⊎ ((low ≤ a) × (high < b))
+      (leb low a && leb b high) ≡ false
       → under low high (insert fs i) (part (piece a b) (shape F.below) (shape F.rest)) ≡ part (piece a b) (shape F.below) (under low high (insert fs i) (shape F.rest))
-  under_past out =
-      let e : (leb low a && leb b high) ≡ false = grind (arith, nat_tests) in
-      ap (λ x. part (piece a b) x (under low high (insert fs i) (shape F.rest))) (cond-false _ _ _ e)
+  under_past out = ap (λ x. part (piece a b) x (under low high (insert fs i) (shape F.rest))) (cond-false _ _ _ out)
 
-  module _ (l : low ≤ a) (h : b ≤ high) where
+  module _ (ins : (leb low a && leb b high) ≡ true) where
     -- one that is gets the rest of the rule
     pub under_here :
         under low high (insert fs i) (part (piece a b) (shape F.below) (shape F.rest)) ≡ part (piece a b) (insert fs i (shape F.below)) (under low high (insert fs i) (shape F.rest))
     under_here =
-        ap (λ x. part (piece a b) x (under low high (insert fs i) (shape F.rest)))
-        (cond-true _ _ _ (and_from _ _ (le-leb low a l) (le-leb b high h)))
+        ap (λ x. part (piece a b) x (under low high (insert fs i) (shape F.rest))) (cond-true _ _ _ ins)
 
     -- there is room for the rest of the rule below it
     pub below_fits : Fits s (d - 1) bel F.below (insert fs i (shape F.below))
@@ -152,15 +150,6 @@ after s s' d first r t t' sh sh' K B =
 pub above_is : (high : ℕ) (sh : Shape) → (high ≡ 0xffff_ffff → ⊥) → cut_above high sh ≡ cut_at (high + 1) sh
 above_is high sh ne = cond-false _ _ _ (ne_eqb high 0xffff_ffff ne)
 
--- the cut is where one above says
-pub above_some : (high a : ℕ) (sh : Shape) → Some a ≡ cond (eqb high 0xffff_ffff) None (Some (high + 1)) → cut_above high sh ≡ cut_at a sh
-above_some high a sh e = by (eqb high 0xffff_ffff) e
-  where
-    -- by whether it is the last number
-    by : (t : Bool) → Some a ≡ cond t None (Some (high + 1)) → cond t sh (cut_at (high + 1) sh) ≡ cut_at a sh
-    by true e = let z : ◌≡◌ {A = ℕ} 0 1 = cc in absurd (let n : ⊥ = omega arith in n)
-    by false e = let q : high + 1 ≡ a = cc in ap (λ x. cut_at x sh) q
-
 -- A step that makes g, on the way to h of that.
 module _ (g h : Shape → Shape) where
   -- before the step there is room for it
@@ -195,7 +184,15 @@ first_ends xs = get_or xs 0 (record { low = 0; high = 0 })
 abbrev pub other_ends : List Ends → List Ends
 other_ends xs = take (length xs - 1) (drop 1 xs)
 
--- they make up the rule
-pub ends_split : (xs : List Ends) → 0 < length xs → xs ≡ first_ends xs ∷ other_ends xs
-ends_split [] l = absurd (omega arith)
-ends_split (x ∷ xs) l = ap (λ ys. x ∷ ys) (sym (take_rest (x ∷ xs) 1))
+-- a rule with a field left is its first interval and the others
+pub record Split (d : ℕ) (xs : List Ends) : Type 0 where
+  pub is : xs ≡ first_ends xs ∷ other_ends xs
+  pub upward : Upward (first_ends xs)
+  pub rest : Intervals (d - 1) (other_ends xs)
+
+pub split : (d : ℕ) (xs : List Ends) → Intervals d xs → 0 < d → Split d xs
+split d [] R pos = absurd (omega (arith, R.fields))
+split d (x ∷ xs) R pos =
+    let is : x ∷ xs ≡ x ∷ other_ends (x ∷ xs) = ap (λ ys. x ∷ ys) (sym (take_rest (x ∷ xs) 1)) in
+    let up = subst (AllByRecursion Upward) is R.upward in
+    record { is = is; upward = up.0; rest = record { fields = omega (arith, R.fields, ap length is); upward = up.1 } }

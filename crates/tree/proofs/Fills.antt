@@ -1,15 +1,18 @@
 -- New branches in the gaps of a span. Assumes nothing.
-use Rattle.std.proofs.Common.{◌≡◌, ℕ, ◌+◌, ◌-◌, ◌<◌, ◌≤◌, min, max, ltb, leb, length, Some, None, Option, sym, refl, ap, ◌∙◌, subst, arith}
+use Rattle.std.proofs.Common.{◌≡◌, ℕ, ◌+◌, ◌-◌, ◌<◌, ◌≤◌, min, max, ltb, leb, length, slice_get, Some, None, Option, sym, refl, ap, ◌∙◌, subst, arith}
 use Rattle.std.proofs.lemmas.Bool.{cond-true, cond-false, lt-ltb, le-leb, lt-leb, le-ltb, cond_both}
 use Rattle.shape.specs.Shapes.{Label, piece, rule, Shape, bare, part, branches_of, marks_of, siblings, gaps}
 use Rattle.tree.specs.Memory.{rec, space, live, Written, Pushed, next_of, with_next, look}
 use Rattle.tree.specs.Links.{Records, none, item, shape, root, place, count, Stands, Changed, Fits, Became, tail, Gap, Inserted}
+use Rattle.shape.specs.Meaning.{Upward}
+use Rattle.routing.specs.declared.ends.Ends.{Ends}
 use Rattle.tree.specs.declared.records.Store.{Store}
-use Rattle.tree.proofs.Places.{live_most}
-use Rattle.tree.proofs.Frames.{kept, empty, Found, unchanged, then, found}
+use Rattle.tree.proofs.Places.{live_most, place_branch}
+use Rattle.tree.specs.declared.records.Branch.{Branch}
+use Rattle.tree.proofs.Frames.{kept, empty, Found, unchanged, then, found_branch}
 use Rattle.tree.proofs.Changing.{Walk, followed, inserted, stands, fits, ended}
 use Rattle.tree.proofs.Grows.{Grows, same_grows, part_grows}
-use Rattle.tree.proofs.Copies.{new_branch, written_branch, at_branch}
+use Rattle.tree.proofs.Copies.{new_branch, written_branch}
 
 -- past the interval there is no gap
 pub gaps_stop : (w h : ℕ) (r : Shape) → h < w → gaps w h r ≡ r
@@ -122,80 +125,81 @@ module _
     next_gaps = ap (λ v. part (piece a b) (shape F.below) (gaps v h (shape F.rest))) (sym is)
 
     -- no gap comes after it
-    pub over_is : Gap w' h (shape F.rest) None → tail w h (part (piece a b) (shape F.below) (shape F.rest)) ≡ part (piece a b) (shape F.below) (tail w' h (shape F.rest))
+    pub over_is : Gap (record { low = w'; high = h }) (shape F.rest) None → tail w h (part (piece a b) (shape F.below) (shape F.rest)) ≡ part (piece a b) (shape F.below) (tail w' h (shape F.rest))
     over_is G = next_gaps ∙ ap (part (piece a b) (shape F.below)) G
 
     -- a gap comes after it
-    module _ (to : ℕ) (G : Gap w' h (shape F.rest) (Some to)) where
-      pub gap_is : tail w h (part (piece a b) (shape F.below) (shape F.rest)) ≡ part (piece a b) (shape F.below) (part (piece w' to) bare (tail w' h (shape F.rest)))
+    module _ (gap : Ends) (G : Gap (record { low = w'; high = h }) (shape F.rest) (Some gap)) where
+      pub gap_is : tail w h (part (piece a b) (shape F.below) (shape F.rest)) ≡ part (piece a b) (shape F.below) (part (piece gap.low gap.high) bare (tail w' h (shape F.rest)))
       gap_is = next_gaps ∙ ap (part (piece a b) (shape F.below)) G
 
-      pub room_gap : s.used < space (length s.branches.now)
+      pub room_gap : s.branches.taken < space (length s.branches.records.now)
       room_gap = omega (arith, (fits W F).room, ap branches_of gap_is, (tail_grows w' h (shape F.rest)).branches)
 
       pub gap_change :
-          (s₁ s₂ : Store) (new : ℕ) → 0 < d → look s at ≡ rec (piece a b) bel next → Inserted s s₁ s₂ at w' to new
-          → Changed s s₂ d (item at (piece a b) F.below F.rest) (item at (piece a b) F.below (item new (piece w' to) none F.rest))
-      gap_change s₁ s₂ new pos read N =
+          (s₁ s₂ : Store) (new : ℕ) → 0 < d → Inserted s s₁ s₂ at gap new
+          → Changed s s₂ d (item at (piece a b) F.below F.rest) (item at (piece a b) F.below (item new (piece gap.low gap.high) none F.rest))
+      gap_change s₁ s₂ new pos N =
           let ne : d ≡ 0 → ⊥ = λ z. omega arith in
+          let read : look s at ≡ rec (piece a b) (root F.below) (root F.rest) = ap (look s) (sym (place_branch d at ne)) ∙ (stands W F).holds.1 in
           (inserted s s s₁ s₂ d at new 0xffff_ffff _ _ _ F.below F.rest none (stands W F) (unchanged s _ none tt) refl N.small
-          (subst (λ i. Pushed s s₁ (place d new) (rec (piece w' to) 0xffff_ffff i)) (ap next_of read ∙ sym F.rest_from) (new_branch s s₁ d new _ ne N.pushed))
-          (subst (λ i. Written s₁ s₂ (place d at) (rec (piece a b) i new)) (sym F.below_from) (written_branch s₁ s₂ d at _ ne (subst (λ x. Written s₁ s₂ at (with_next x new)) read N.written)))
+          (subst (λ i. Pushed s s₁ (place d new) (rec (piece gap.low gap.high) 0xffff_ffff i)) (ap next_of read) (new_branch s s₁ d new _ ne N.pushed))
+          (written_branch s₁ s₂ d at _ ne (subst (λ x. Written s₁ s₂ at (with_next x new)) read N.written))
           refl refl).change
 
 -- the gap before a node's branches, by what was read
-pub gap_end : (s : Store) (d from high : ℕ) (t : Records) → Stands s d t → root t ≡ 0xffff_ffff → from ≤ high → Gap from high (shape t) (Some high)
-gap_end s d from high t S e l =
-    subst (λ t. Gap from high (shape t) (Some high)) (sym (empty s d t S.holds e)) (gaps_end from high l)
+pub gap_end : (s : Store) (d : ℕ) (span : Ends) (t : Records) → Stands s d t → root t ≡ 0xffff_ffff → Upward span → Gap span (shape t) (Some span)
+gap_end s d span t S e l =
+    subst (λ t. Gap span (shape t) (Some span)) (sym (empty s d t S.holds e)) (gaps_end span.low span.high l)
 
 module _
-    (s : Store) (d next from high a b bel after : ℕ) (t : Records) (S : Stands s d t) (e : root t ≡ next) (ne : next ≡ 0xffff_ffff → ⊥)
-    (pos : 0 < d) (read : look s next ≡ rec (piece a b) bel after) (l : from ≤ high) where
+    (s : Store) (d next : ℕ) (span : Ends) (t : Records) (S : Stands s d t) (e : root t ≡ next) (ne : next ≡ 0xffff_ffff → ⊥)
+    (pos : 0 < d) (b : Branch) (read : slice_get s.branches.records.now next ≡ Some b) (l : Upward span) where
   -- the first of the branches, as it was read
-  seen : Found next (piece a b) bel after t
-  seen = found s d next _ bel after t S.holds e ne (at_branch s d next _ (λ z. omega arith) read)
+  seen : Found next (piece b.low b.high) b.below b.next t
+  seen = found_branch s d next t e ne S.holds (λ z. omega arith) read
 
   -- it begins above
-  pub gap_there : (to : ℕ) → to ≡ min high (a - 1) → from < a → Gap from high (shape t) (Some to)
+  pub gap_there : (to : ℕ) → to ≡ min span.high (b.low - 1) → span.low < b.low → Gap span (shape t) (Some (record { low = span.low; high = to }))
   gap_there to is m =
-      subst (λ t. Gap from high (shape t) (Some to)) (sym seen.is)
-      (gaps_gap from high a b (shape seen.below) (shape seen.rest) l m ∙ ap (λ n. part (piece from n) bare (tail from high (shape (item next (piece a b) seen.below seen.rest)))) (sym is))
+      subst (λ t. Gap span (shape t) (Some (record { low = span.low; high = to }))) (sym seen.is)
+      (gaps_gap span.low span.high b.low b.high (shape seen.below) (shape seen.rest) l m ∙ ap (λ n. part (piece span.low n) bare (tail span.low span.high (shape (item next (piece b.low b.high) seen.below seen.rest)))) (sym is))
 
   -- it begins at or below
-  pub no_gap : a ≤ from → Gap from high (shape t) None
-  no_gap m = subst (λ t. Gap from high (shape t) None) (sym seen.is) (gaps_over from high a b (shape seen.below) (shape seen.rest) l m)
+  pub no_gap : b.low ≤ span.low → Gap span (shape t) None
+  no_gap m = subst (λ t. Gap span (shape t) None) (sym seen.is) (gaps_over span.low span.high b.low b.high (shape seen.below) (shape seen.rest) l m)
 
 -- The gap before the first branch is filled last.
-module _ (s : Store) (d first w h : ℕ) (t : Records) (K : Fits s d first t (gaps w h (shape t))) (o : Option ℕ) (G : Gap w h (shape t) o) where
+module _ (s : Store) (d first : ℕ) (span : Ends) (t : Records) (K : Fits s d first t (gaps span.low span.high (shape t))) (o : Option Ends) (G : Gap span (shape t) o) where
   -- there is room for the other gaps
-  pub tail_fits : Fits s d first t (tail w h (shape t))
+  pub tail_fits : Fits s d first t (tail span.low span.high (shape t))
   tail_fits = front o G
     where
-      front : (o : Option ℕ) → Gap w h (shape t) o → Fits s d first t (tail w h (shape t))
+      front : (o : Option Ends) → Gap span (shape t) o → Fits s d first t (tail span.low span.high (shape t))
       front None G = subst (Fits s d first t) G K
-      front (Some to) G =
+      front (Some gap) G =
           record { stands = K.stands; from = K.from; steps = K.steps; room = omega (arith, K.room, ap branches_of G); room_marks = omega (arith, K.room_marks, ap marks_of G) }
 
-module _ (s : Store) (d first w h : ℕ) (t : Records) (K : Fits s d first t (gaps w h (shape t))) (s₁ : Store) (t₁ : Records) (B : Became s s₁ d t (tail w h (shape t)) first t₁) where
+module _ (s : Store) (d first : ℕ) (span : Ends) (t : Records) (K : Fits s d first t (gaps span.low span.high (shape t))) (s₁ : Store) (t₁ : Records) (B : Became s s₁ d t (tail span.low span.high (shape t)) first t₁) where
   -- there was no gap before the first branch
-  pub first_kept : Gap w h (shape t) None → Became s s₁ d t (gaps w h (shape t)) first t₁
+  pub first_kept : Gap span (shape t) None → Became s s₁ d t (gaps span.low span.high (shape t)) first t₁
   first_kept G = record { change = B.change; same = B.same ∙ sym G; from = B.from }
 
-  module _ (to : ℕ) (G : Gap w h (shape t) (Some to)) where
+  module _ (gap : Ends) (G : Gap span (shape t) (Some gap)) where
     -- there is room for a branch before it
-    pub room_first : s₁.used < space (length s₁.branches.now)
+    pub room_first : s₁.branches.taken < space (length s₁.branches.records.now)
     room_first = omega (arith, K.room, ap branches_of G, B.change.branches, ap branches_of B.same, B.change.all)
 
     -- that branch is the new first
     pub first_filled :
-        (s₂ : Store) (r : ℕ) → r < 0xffff_ffff → Pushed s₁ s₂ (place d r) (rec (piece w to) 0xffff_ffff first)
-        → (u : Records) × Became s s₂ d t (gaps w h (shape t)) r u
+        (s₂ : Store) (r : ℕ) → r < 0xffff_ffff → Pushed s₁ s₂ (place d r) (rec (piece gap.low gap.high) 0xffff_ffff first)
+        → (u : Records) × Became s s₂ d t (gaps span.low span.high (shape t)) r u
     first_filled s₂ r low P =
         let S : Stands s₁ d t₁ = record { holds = B.change.holds; own = λ k. omega (arith, K.stands.own k, B.change.grown k) } in (
-          item r (piece w to) none t₁,
+          item r (piece gap.low gap.high) none t₁,
           record {
-            change = then s s₁ s₂ d t t₁ _ B.change (fronted s₁ s₂ d r first (piece w to) t₁ S B.from low P);
-            same = ap (part (piece w to) bare) B.same ∙ sym G;
+            change = then s s₁ s₂ d t t₁ _ B.change (fronted s₁ s₂ d r first (piece gap.low gap.high) t₁ S B.from low P);
+            same = ap (part (piece gap.low gap.high) bare) B.same ∙ sym G;
             from = refl;
           },
         )

@@ -1,10 +1,11 @@
 -- The look-up of a message. Assumes nothing.
 use Rattle.std.proofs.Common.{◌≡◌, ℕ, ◌+◌, ◌<◌, ◌≤◌, true, false, cond, ◌&&◌, leb, ◌⊎◌, List, [], ◌∷◌, length, get_or, drop, Some, None, sym, refl, ap, ◌∙◌, subst, inl, inr, ⊎_elim, arith, MatchOption}
+use Rattle.std.specs.Option.{option_and_then}
 use Rattle.std.proofs.lemmas.Bool.Decides.{nat_tests}
 use Rattle.std.proofs.lemmas.Bool.{cond-false}
 use Rattle.std.proofs.lemmas.List.{drop_more, drop_all}
 use Rattle.shape.specs.Shapes.{piece, rule, Shape, bare, part}
-use Rattle.shape.specs.Meaning.{marks_in, branch_at, onward, reached}
+use Rattle.shape.specs.Meaning.{marks_in, branch_at, reached}
 use Rattle.tree.specs.Lookups.{seek_in, look_up}
 use Rattle.routing.specs.Rules.{holds}
 use Rattle.tree.specs.Reads.{Ordered}
@@ -44,6 +45,6 @@ looked [] sh ns h = h
 looked (v ∷ vs) sh ns h =
     ⊎_elim
     (λ n.
-    ap (λ u. marks_in (look_up vs u)) n.1 ∙ ap marks_in (look_bare vs) ∙ sym (subst (λ o. MatchOption (onward (reached vs) o) (ns ≡ []) (λ c. marks_in c ≡ ns)) n.0 h))
-    (λ s. looked vs (seek_in v sh) ns (subst (λ o. MatchOption (onward (reached vs) o) (ns ≡ []) (λ c. marks_in c ≡ ns)) s h))
+    ap (λ u. marks_in (look_up vs u)) n.1 ∙ ap marks_in (look_bare vs) ∙ sym (subst (λ o. MatchOption (option_and_then (reached vs) o) (ns ≡ []) (λ c. marks_in c ≡ ns)) n.0 h))
+    (λ s. looked vs (seek_in v sh) ns (subst (λ o. MatchOption (option_and_then (reached vs) o) (ns ≡ []) (λ c. marks_in c ≡ ns)) s h))
     (found_or_not v sh)

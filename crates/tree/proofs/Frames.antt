@@ -1,11 +1,13 @@
 -- Links in a memory that changes elsewhere. Assumes nothing.
-use Rattle.std.proofs.Common.{◌≡◌, ℕ, zero, suc, ◌+◌, ◌-◌, ◌<◌, ◌≤◌, sym, refl, ap, ◌∙◌, subst, one-add, arith}
+use Rattle.std.proofs.Common.{◌≡◌, ℕ, zero, suc, ◌+◌, ◌-◌, ◌<◌, ◌≤◌, cond, eqb, length, slice_get, Some, sym, refl, ap, ◌∙◌, subst, one-add, arith}
 use Rattle.std.proofs.lemmas.Bool.{cond-false, ne_eqb}
 use Rattle.shape.specs.Shapes.{Label, piece, rule, Shape, part, branches_of, marks_of, siblings, bare}
 use Rattle.tree.specs.Memory.{rec, next_of, live, look, Pushed}
 use Rattle.tree.specs.Links.{Records, none, item, shape, root, place, Holds, count, Stands, Changed, chain}
 use Rattle.tree.specs.declared.records.Store.{Store}
-use Rattle.tree.proofs.Places.{one_self, live_most}
+use Rattle.tree.specs.declared.records.Branch.{Branch}
+use Rattle.tree.specs.declared.records.Mark.{Mark}
+use Rattle.tree.proofs.Places.{one_self, live_most, place_mark, place_branch, inside_branch, inside_mark, at_branch, at_mark}
 
 -- THE FRAME: a tree stands on where the memory keeps its places.
 pub kept : (s s' : Store) (d : ℕ) (t : Records) → Holds s d t → ((k : ℕ) → 0 < count d t k → look s' k ≡ look s k) → Holds s' d t
@@ -56,6 +58,26 @@ taken s d at none S e ne = absurd (ne (sym e))
 taken s d at (item a l below rest) S e ne =
     subst (λ i. 0 < live s (place d i)) e (omega (arith, one_self (place d a), S.own (place d a)))
 
+-- A node's first record: a branch lies in its slice, and says what was read.
+module _ (s : Store) (d at : ℕ) (t : Records) (from : root t ≡ at) (ne : at ≡ 0xffff_ffff → ⊥) where
+  -- its index is below the link to nothing
+  low_index : Holds s d t → at < 0xffff_ffff
+  low_index h = let O = opened at t from ne in (subst (Holds s d) O.is h).0
+
+  pub branch_inside : Stands s d t → (d ≡ 0 → ⊥) → at < length s.branches.records.now
+  branch_inside S pos =
+      inside_branch s at (omega (arith, low_index S.holds)) (rw (place_branch d at pos) at (taken s d at t S from ne))
+
+  pub found_branch : {b : Branch} → Holds s d t → (d ≡ 0 → ⊥) → slice_get s.branches.records.now at ≡ Some b → Found at (piece b.low b.high) b.below b.next t
+  found_branch {b} h pos read = found s d at _ _ _ t h from ne (at_branch s d at b pos (omega (arith, low_index h)) read)
+
+  -- a mark too
+  pub mark_inside : Stands s d t → d ≡ 0 → at < length s.marks.records.now
+  mark_inside S z = inside_mark s at (rw (place_mark d at z) at (taken s d at t S from ne))
+
+  pub found_mark : {m : Mark} → Holds s d t → d ≡ 0 → slice_get s.marks.records.now at ≡ Some m → Found at (rule m.rule) 0xffff_ffff m.next t
+  found_mark {m} h z read = found s d at _ _ _ t h from ne (at_mark s d at m z read)
+
 -- how far a loop over a node has to go
 pub chain_is : (s : Store) (d : ℕ) (t : Records) (n : ℕ) → Holds s d t → siblings (shape t) ≤ n → chain n s d (root t) ≡ siblings (shape t)
 chain_is s d none zero h le = refl
@@ -65,6 +87,14 @@ chain_is s d (item at l below rest) (suc n) h le =
     cond-false _ _ _ (ne_eqb at 0xffff_ffff (λ e. omega (arith, h.0)))
     ∙ ap suc (ap (λ r. chain n s d (next_of r)) h.1 ∙ chain_is s d rest n h.3 (omega arith))
     ∙ sym (one-add (siblings (shape rest)))
+
+-- in any node the links are those of branches
+pub chain_branch : (n : ℕ) (s : Store) (d at : ℕ) → 0 < d → chain n s d at ≡ chain n s 1 at
+chain_branch zero s d at pos = refl
+chain_branch (suc n) s d at pos =
+    let p : place d at ≡ place 1 at = place_branch d at (λ z. omega arith) ∙ sym (place_branch 1 at (λ z. omega arith)) in
+    ap (λ i. cond (eqb at 0xffff_ffff) 0 (suc (chain n s d (next_of (look s i))))) p
+    ∙ ap (λ m. cond (eqb at 0xffff_ffff) 0 (suc m)) (chain_branch n s d (next_of (look s (place 1 at))) pos)
 
 -- a node has no more records than its tree
 pub few : (t : Shape) → siblings t ≤ branches_of t + marks_of t

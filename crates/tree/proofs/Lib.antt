@@ -14,3 +14,4 @@ pub mod Recovers
 pub mod Cells
 pub mod Meanings
 pub mod Lawfuls
+pub mod Leading

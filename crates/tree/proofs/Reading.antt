@@ -1,13 +1,13 @@
 -- A loop along a node or a cell that changes nothing. Assumes nothing.
-use Rattle.std.proofs.Common.{◌≡◌, ℕ, ◌+◌, ◌-◌, ◌<◌, ◌≤◌, sym, refl, ap, ◌∙◌, subst, arith}
+use Rattle.std.proofs.Common.{◌≡◌, ℕ, ◌+◌, ◌-◌, ◌<◌, ◌≤◌, length, slice_get, Some, sym, refl, ap, ◌∙◌, subst, arith}
 use Rattle.shape.specs.Shapes.{Label, piece, rule, Shape, bare, part, siblings}
-use Rattle.tree.specs.Memory.{rec, mark_place, live, look}
-use Rattle.tree.specs.Links.{Records, none, item, shape, root, place, Holds, chain}
+use Rattle.tree.specs.Memory.{in_use}
+use Rattle.tree.specs.Links.{Records, none, item, shape, root, Holds, chain}
 use Rattle.tree.specs.Reads.{Ordered, Stood}
 use Rattle.tree.specs.declared.records.Store.{Store}
-use Rattle.tree.proofs.Places.{place_mark, place_branch}
-use Rattle.tree.proofs.Copies.{at_branch, at_mark}
-use Rattle.tree.proofs.Frames.{empty, Found, found, taken, chain_is, few}
+use Rattle.tree.specs.declared.records.Branch.{Branch}
+use Rattle.tree.specs.declared.records.Mark.{Mark}
+use Rattle.tree.proofs.Frames.{empty, Found, branch_inside, mark_inside, found_branch, found_mark, chain_is, few}
 
 -- At `at` stands what is left of the node, n records at most, and of that P is known.
 pub record Passing (s : Store) (d at n : ℕ) (P : Shape → Type 0) : Type 0 where
@@ -59,31 +59,25 @@ module _ {s : Store} {d at : ℕ} {l : Label} {bel next : ℕ} {t : Records} (S 
       }
 
 -- the loop begins
-pub begin : (s : Store) (d first : ℕ) (t : Records) (P : Shape → Type 0) → Stood s d first t → P (shape t) → Passing s d first (s.used + s.marked) P
+pub begin : (s : Store) (d first : ℕ) (t : Records) (P : Shape → Type 0) → Stood s d first t → P (shape t) → Passing s d first (in_use s) P
 begin s d first t P S h = record { rest = t; stood = S; turns = omega (arith, S.steps, few (shape t)); fact = h }
 
 module _ {s : Store} {d at n : ℕ} {P : Shape → Type 0} (W : Passing s d at n P) where
-  -- the record at `at` is taken
-  pub stays : (at ≡ 0xffff_ffff → ⊥) → 0 < live s (place d at)
-  stays ne = taken s d at W.rest W.stood.stands W.stood.from ne
+  -- the branch at `at` lies in its slice
+  pub stays_branch : 0 < d → (at ≡ 0xffff_ffff → ⊥) → at < length s.branches.records.now
+  stays_branch pos ne = branch_inside s d at W.rest W.stood.from ne W.stood.stands (λ z. omega arith)
 
-  -- it is a branch
-  pub stays_branch : 0 < d → (at ≡ 0xffff_ffff → ⊥) → 0 < live s at
-  stays_branch pos ne = rw (place_branch d at (λ z. omega arith)) at (stays ne)
-
-  -- it is a mark
-  pub stays_mark : d ≡ 0 → (at ≡ 0xffff_ffff → ⊥) → 0 < live s (mark_place at)
-  stays_mark z ne = rw (place_mark d at z) at (stays ne)
+  -- so does a mark
+  pub stays_mark : d ≡ 0 → (at ≡ 0xffff_ffff → ⊥) → at < length s.marks.records.now
+  stays_mark z ne = mark_inside s d at W.rest W.stood.from ne W.stood.stands z
 
   -- what was read there
-  pub seen_branch : {low high bel next : ℕ} → 0 < d → (at ≡ 0xffff_ffff → ⊥) → look s at ≡ rec (piece low high) bel next → Found at (piece low high) bel next W.rest
-  seen_branch {low} {high} {bel} {next} pos ne read =
-      found s d at _ bel next W.rest W.stood.stands.holds W.stood.from ne (at_branch s d at _ (λ z. omega arith) read)
+  pub seen_branch : {b : Branch} → 0 < d → (at ≡ 0xffff_ffff → ⊥) → slice_get s.branches.records.now at ≡ Some b → Found at (piece b.low b.high) b.below b.next W.rest
+  seen_branch pos ne read = found_branch s d at W.rest W.stood.from ne W.stood.stands.holds (λ z. omega arith) read
 
   -- the same of a mark
-  pub seen_mark : {i bel next : ℕ} → d ≡ 0 → (at ≡ 0xffff_ffff → ⊥) → look s (mark_place at) ≡ rec (rule i) bel next → Found at (rule i) bel next W.rest
-  seen_mark {i} {bel} {next} z ne read =
-      found s d at _ bel next W.rest W.stood.stands.holds W.stood.from ne (at_mark s d at _ z read)
+  pub seen_mark : {m : Mark} → d ≡ 0 → (at ≡ 0xffff_ffff → ⊥) → slice_get s.marks.records.now at ≡ Some m → Found at (rule m.rule) 0xffff_ffff m.next W.rest
+  seen_mark z ne read = found_mark s d at W.rest W.stood.from ne W.stood.stands.holds z read
 
   -- nothing is left
   pub ended : at ≡ 0xffff_ffff → P bare

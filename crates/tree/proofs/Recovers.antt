@@ -1,17 +1,16 @@
 -- The tree that stands in the records is read off them. Assumes nothing.
-use Rattle.std.proofs.Common.{◌≡◌, ℕ, zero, suc, ◌+◌, ◌-◌, ◌≤◌, cond, eqb, List, [], ◌∷◌, take, sym, refl, ap, ◌∙◌, subst, ap₂, arith}
-use mathlib.Core.Logic.{∥∥₁_elim}
+use Rattle.std.proofs.Common.{◌≡◌, ℕ, zero, suc, ◌+◌, ◌-◌, ◌≤◌, cond, eqb, List, take, sym, refl, ap, ◌∙◌, subst, ap₂, arith}
+use Rattle.std.proofs.Math.Logic.{∥∥₁_elim}
 use native.Mathlib.Bridge.{le_prop}
 use native.Mathlib.Nat.{ℕ_set}
 use Rattle.std.proofs.lemmas.Bool.{cond-false, ne_eqb}
-use Rattle.std.specs.List.{AllByRecursion}
+use Rattle.std.specs.List.{AllByRecursion, AllByRecursion-prop}
 use Rattle.shape.specs.Shapes.{Label, piece, rule, branches_of, marks_of, Shape, ShapeSet, bare, part, grown}
 use Rattle.shape.specs.Meaning.{Sound, Proper, Tidy}
-use Rattle.tree.specs.Memory.{look, RecSet, label_of, below_of, next_of}
+use Rattle.tree.specs.Memory.{look, RecSet, label_of, below_of, next_of, in_use}
 use Rattle.tree.specs.Links.{Records, none, item, shape, root, place, Holds, Stands}
-use Rattle.tree.specs.Reads.{Ordered, Stood}
-use Rattle.tree.specs.Means.{Meant, Means}
-use Rattle.tree.specs.declared.all_match.Tree.{Tree}
+use Rattle.tree.specs.Reads.{Ordered, Stood, SomeTree}
+use Rattle.tree.specs.Meant.{Meant, SomeRules}
 use Rattle.tree.specs.declared.records.Store.{Store}
 use Rattle.routing.specs.declared.ends.Ends.{Ends}
 use Rattle.shape.proofs.Counts.{space_exact}
@@ -59,38 +58,38 @@ holds_prop s d (item at l below rest) x y =
 pub stands_prop : (s : Store) (d : ℕ) (t : Records) → IsProp (Stands s d t)
 stands_prop s d t x y = λ i. record { holds = holds_prop s d t x.holds y.holds i; own = λ k. le_prop (x.own k) (y.own k) i }
 
--- what holds of each element has one proof
-all_prop : {X : Type 0} (P : X → Type 0) → ((x : X) → IsProp (P x)) → (xs : List X) → IsProp (AllByRecursion P xs)
-all_prop P p [] a b = refl
-all_prop P p (x ∷ xs) a b = λ i. (p x a.0 b.0 i, all_prop P p xs a.1 b.1 i)
-
--- so that a rule is proper
+-- that a rule is proper has one proof too
 proper_prop : (d : ℕ) (r : List Ends) → IsProp (Proper d r)
 proper_prop d r a b =
-    λ i. (le_prop a.0 b.0 i, all_prop Sound (λ e x y j. (le_prop x.0 y.0 j, le_prop x.1 y.1 j)) (take d r) a.1 b.1 i)
+    λ i. (le_prop a.0 b.0 i, AllByRecursion-prop Sound (λ e x y j. (le_prop x.0 y.0 j, le_prop x.1 y.1 j)) (take d r) a.1 b.1 i)
 
 -- the size of the tree of some rules
-pub sized : {x : Tree} {T : List (List Ends)} (m : Meant x T) → (branches_of (shape m.records.0) ≡ x.store.used) × (marks_of (shape m.records.0) ≡ x.store.marked)
-sized {x} {T} m =
-    let e = space_exact x.fields T m.proper in
+pub sized : {s : Store} {first d : ℕ} {T : List (List Ends)} (m : Meant s first d T) → (branches_of (shape m.records.0) ≡ s.branches.taken) × (marks_of (shape m.records.0) ≡ s.marks.taken)
+sized {s} {first} {d} {T} m =
+    let e = space_exact d T m.proper in
     (ap branches_of m.records.3 ∙ e.0 ∙ sym m.branches, ap marks_of m.records.3 ∙ e.1 ∙ sym m.marks)
 
--- THE READING: the tree is read off the records, so what they mean comes out of the truncation
-pub recovered : {x : Tree} {T : List (List Ends)} → Means x T → Meant x T
-recovered {x} {T} e =
-    let s = x.store in
-    let d = x.fields in
-    let n = s.used + s.marked in
-    let u : Records = read_at n s d x.root in
-    let ok : AllByRecursion (Proper d) T = ∥∥₁_elim e (all_prop (Proper d) (proper_prop d) T) (λ m. m.proper) in
-    let one-tree : IsProp (Stands s d u × (root u ≡ x.root) × (shape u ≡ grown d T)) =
-    λ a b i. (stands_prop s d u a.0 b.0 i, ℕ_set _ _ a.1 b.1 i, ShapeSet _ _ a.2 b.2 i) in
-    let tree : Stands s d u × (root u ≡ x.root) × (shape u ≡ grown d T) =
-    ∥∥₁_elim e one-tree
-    (λ (m : Meant x T).
+-- what is read at the root
+abbrev pub read : Store → (first d : ℕ) → Records
+read s first d = read_at (in_use s) s d first
+
+-- it is the tree of the rules
+pub read_tree : {s : Store} {first d : ℕ} {T : List (List Ends)} (m : Meant s first d T) → m.records.0 ≡ read s first d
+read_tree {s} {first} {d} m =
     let z = sized m in
-    let q : m.records.0 ≡ u = sym (read_is n s d m.records.0 m.records.1.holds (omega (arith, z.0, z.1))) ∙ ap (read_at n s d) m.records.2 in
-    subst (λ (t : Records). Stands s d t × (root t ≡ x.root) × (shape t ≡ grown d T)) q (m.records.1, m.records.2, m.records.3)) in
+    let n = in_use s in
+    sym (read_is n s d m.records.0 m.records.1.holds (omega (arith, z.0, z.1))) ∙ ap (read_at n s d) m.records.2
+
+-- THE READING: the tree is read off the records, so what they mean comes out of the truncation
+pub recovered : {s : Store} {first d : ℕ} {T : List (List Ends)} → ∥ Meant s first d T ∥₁ → Meant s first d T
+recovered {s} {first} {d} {T} e =
+    let u : Records = read s first d in
+    let ok : AllByRecursion (Proper d) T = ∥∥₁_elim e (AllByRecursion-prop (Proper d) (proper_prop d) T) (λ m. m.proper) in
+    let one-tree : IsProp (Stands s d u × (root u ≡ first) × (shape u ≡ grown d T)) =
+    λ a b i. (stands_prop s d u a.0 b.0 i, ℕ_set _ _ a.1 b.1 i, ShapeSet _ _ a.2 b.2 i) in
+    let tree : Stands s d u × (root u ≡ first) × (shape u ≡ grown d T) =
+    ∥∥₁_elim e one-tree
+    (λ (m : Meant s first d T). subst (λ (t : Records). Stands s d t × (root t ≡ first) × (shape t ≡ grown d T)) (read_tree m) (m.records.1, m.records.2, m.records.3)) in
     record {
       fields = ∥∥₁_elim e (λ a b i. (le_prop a.0 b.0 i, le_prop a.1 b.1 i)) (λ m. m.fields);
       proper = ok;
@@ -109,12 +108,40 @@ ordered_tidy (suc d) lo (part (piece a b) below rest) h = (h.0, h.1, ordered_tid
 ordered_tidy (suc d) lo (part (rule i) below rest) h = elim h [ ]
 
 -- the tree stands at the root, in order
-pub stood : {x : Tree} {T : List (List Ends)} (m : Meant x T) → Stood x.store x.fields x.root m.records.0
-stood {x} {T} m =
+pub stood : {s : Store} {first d : ℕ} {T : List (List Ends)} (m : Meant s first d T) → Stood s d first m.records.0
+stood {s} {first} {d} {T} m =
     let z = sized m in
     record {
       stands = m.records.1;
       from = m.records.2;
       steps = omega (arith, z.0, z.1);
-      order = subst (Ordered 0) (sym m.records.3) (ordered_tidy x.fields 0 (grown x.fields T) m.tidy);
+      order = subst (Ordered 0) (sym m.records.3) (ordered_tidy d 0 (grown d T) m.tidy);
     }
+
+-- order has one proof
+ordered_prop : (lo : ℕ) (sh : Shape) → IsProp (Ordered lo sh)
+ordered_prop lo bare a b = refl
+ordered_prop lo (part (piece l h) below rest) a b =
+    λ i. (le_prop a.0 b.0 i, le_prop a.1 b.1 i, ordered_prop 0 below a.2 b.2 i, ordered_prop (h + 1) rest a.3 b.3 i)
+ordered_prop lo (part (rule n) below rest) a b =
+    λ i. (le_prop a.0 b.0 i, ordered_prop 0 below a.1 b.1 i, ordered_prop (n + 1) rest a.2 b.2 i)
+
+-- so that a tree stands in order
+stood_prop : (s : Store) (d first : ℕ) (t : Records) → IsProp (Stood s d first t)
+stood_prop s d first t a b =
+    λ i. record {
+      stands = stands_prop s d t a.stands b.stands i;
+      from = ℕ_set _ _ a.from b.from i;
+      steps = le_prop a.steps b.steps i;
+      order = ordered_prop 0 (shape t) a.order b.order i;
+    }
+
+-- whatever the rules are, there are 1 to 8 fields
+pub few_fields : {s : Store} {first d : ℕ} → SomeRules s first d → (1 ≤ d) × (d ≤ 8)
+few_fields e = ∥∥₁_elim e (λ a b i. (le_prop a.0 b.0 i, le_prop a.1 b.1 i)) (λ p. p.1.fields)
+
+-- and records that stand in order
+pub some_tree : {s : Store} {first d : ℕ} → SomeRules s first d → SomeTree s d first
+some_tree {s} {first} {d} e =
+    let u : Records = read s first d in
+    (u, ∥∥₁_elim e (stood_prop s d first u) (λ p. subst (Stood s d first) (read_tree p.1) (stood p.1)))

@@ -313,16 +313,33 @@ pub weighs_when : (t : Bool) {k r : Space} {v : ℕ → ℕ → ℕ} → Weighs 
 weighs_when true {v = v} V e = subst (λ k. Weighs k v) (sym e) V
 weighs_when false V e = subst (λ k. Weighs k (λ p q. 0)) (sym e) nothing_weighs
 
+-- a new branch, where there is a gap before one that begins at a
+pub new_before :
+    (w high a to : ℕ) {v : ℕ → ℕ → ℕ} {k r : Space} → Weighs k v → r ≡ cond (ltb w to) k (record { branches = 0; marks = 0 })
+    → to ≡ min (high + 1) a → Weighs r (λ p q. cond (leb w high && ltb w a) (v p q) 0)
+new_before w high a to {k = k} V e is =
+    let same : ltb w to ≡ (leb w high && ltb w a) = ap (ltb w) is ∙ both w high a in
+    weighs_when (leb w high && ltb w a) V (e ∙ ap (λ t. cond t k (record { branches = 0; marks = 0 })) same)
+  where
+    both : (w high a : ℕ) → ltb w (min (high + 1) a) ≡ (leb w high && ltb w a)
+    both w high a = grind (arith, nat_tests)
+
+-- and at the end
+pub new_after :
+    (w high to : ℕ) {v : ℕ → ℕ → ℕ} {k r : Space} → Weighs k v → r ≡ cond (ltb w to) k (record { branches = 0; marks = 0 })
+    → to ≡ high + 1 → Weighs r (λ p q. cond (leb w high) (v p q) 0)
+new_after w high to {k = k} V e is =
+    let same : ltb w to ≡ leb w high = ap (ltb w) is ∙ past w high in
+    weighs_when (leb w high) V (e ∙ ap (λ t. cond t k (record { branches = 0; marks = 0 })) same)
+  where
+    past : (w high : ℕ) → ltb w (high + 1) ≡ leb w high
+    past w high = grind (arith, nat_tests)
+
 -- a branch that is neither inside nor cut on both sides has one part outside
 pub one_part :
-    (p q low high a b : ℕ) (below : Shape) → ((low ≤ a) × (high < b)) ⊎ (a < low) → ((a < low) × (b ≤ high)) ⊎ (low ≤ a)
+    (p q low high a b : ℕ) (below : Shape) → (leb low a && leb b high) ≡ false → ((a < low) × (b ≤ high)) ⊎ (low ≤ a)
     → p + weight p q below ≡ parts_out p q low high a b below
 one_part p q low high a b below x y = grind (arith, nat_tests)
-
--- one that lies apart has none inside
-pub no_part :
-    (p q low high : ℕ) (f : Shape → Shape) (a b : ℕ) (below : Shape) → ((low ≤ b) × (high < a)) ⊎ (b < low) → 0 ≡ part_in p q low high f a b below
-no_part p q low high f a b below x = grind (arith, nat_tests)
 
 -- A TURN OF THE COUNT: the gap before a branch and its parts are added
 pub turned :

@@ -1,8 +1,9 @@
 -- The memory of a tree: what stands at each place, and which places are taken. A branch's place is its index, and a mark's its index
 -- and 2 ^ 32 more, so that one number names either. Assumes nothing.
-use Rattle.std.specs.Prelude.{◌≡◌, ℕ, ◌+◌, ◌-◌, min, cond, List, length, ◌==◌, nat_lt, slice_index_or}
+use Rattle.std.specs.Prelude.{◌≡◌, ℕ, ◌+◌, ◌-◌, min, cond, Some, None, Option, List, length, ◌==◌, nat_lt, slice_index_or}
 use Rattle.std.proofs.Math.Nat.{ℕ_set}
 use Rattle.shape.specs.Shapes.{Label, LabelSet, piece, rule, branch_of, mark_of}
+unfoldable pub use Rattle.tree.specs.Pools.{space}
 use Rattle.tree.specs.declared.records.Branch.{Branch}
 use Rattle.tree.specs.declared.records.Mark.{Mark}
 use Rattle.tree.specs.declared.records.Store.{Store}
@@ -38,16 +39,16 @@ one p k = cond (p == k) 1 0
 unfoldable pub live_in : (n m k : ℕ) → ℕ
 live_in n m k = cond (nat_lt k 4294967296) (cond (nat_lt k n) 1 0) (cond (nat_lt k (m + 4294967296)) 1 0)
 
--- how many records a slice of n holds at most: each index is below the link to nothing
-unfoldable pub space : ℕ → ℕ
-space n = min n 0xffff_ffff
-
 -- how many of u records lie in a slice of n
 unfoldable pub top : (u n : ℕ) → ℕ
 top u n = min u n
 
 abbrev pub live : Store → ℕ → ℕ
-live s k = live_in (top s.used (length s.branches.now)) (top s.marked (length s.marks.now)) k
+live s k = live_in (top s.branches.taken (length s.branches.records.now)) (top s.marks.taken (length s.marks.records.now)) k
+
+-- how many records are taken
+abbrev pub in_use : Store → ℕ
+in_use s = s.branches.taken + s.marks.taken
 
 abbrev pub of_branch : Branch → Rec
 of_branch b = rec (piece b.low b.high) b.below b.next
@@ -63,14 +64,18 @@ look_in bs ms k =
     (of_mark (slice_index_or ms (k - 4294967296) (record { rule = 0; next = 0 })))
 
 abbrev pub look : Store → ℕ → Rec
-look s k = look_in s.branches.now s.marks.now k
+look s k = look_in s.branches.records.now s.marks.records.now k
+
+-- a link as an option
+abbrev pub link_of : ℕ → Option ℕ
+link_of n = cond (n == 0xffff_ffff) None (Some n)
 
 -- n branches and m marks more are taken
 pub record Room (s s' : Store) (n m : ℕ) : Type 0 where
-  pub branches : s'.used ≡ s.used + n
-  pub marks : s'.marked ≡ s.marked + m
-  pub all : space (length s'.branches.now) ≡ space (length s.branches.now)
-  pub all_marks : space (length s'.marks.now) ≡ space (length s.marks.now)
+  pub branches : s'.branches.taken ≡ s.branches.taken + n
+  pub marks : s'.marks.taken ≡ s.marks.taken + m
+  pub all : space (length s'.branches.records.now) ≡ space (length s.branches.records.now)
+  pub all_marks : space (length s'.marks.records.now) ≡ space (length s.marks.records.now)
 
 -- the record at p became r
 pub record Written (s s' : Store) (p : ℕ) (r : Rec) : Type 0 where

@@ -1,6 +1,7 @@
 -- Trees that are read, and what they take. Assumes nothing.
 use Rattle.std.specs.Prelude.{◌≡◌, ℕ, ◌+◌, ◌≤◌, min}
 use Rattle.shape.specs.Shapes.{Label, piece, rule, Shape, bare, part, branches_of, marks_of}
+use Rattle.tree.specs.Memory.{in_use}
 use Rattle.tree.specs.Links.{Records, shape, root, Stands}
 use Rattle.tree.specs.declared.records.Store.{Store}
 use Rattle.tree.specs.declared.space.Space.{Space}
@@ -15,8 +16,11 @@ Ordered lo (part (rule i) below rest) = (lo ≤ i) × Ordered 0 below × Ordered
 pub record Stood (s : Store) (d first : ℕ) (t : Records) : Type 0 where
   pub stands : Stands s d t
   pub from : root t ≡ first
-  pub steps : branches_of (shape t) + marks_of (shape t) ≤ s.used + s.marked
+  pub steps : branches_of (shape t) + marks_of (shape t) ≤ in_use s
   pub order : Ordered 0 (shape t)
+
+abbrev pub SomeTree : Store → (d first : ℕ) → Type 0
+SomeTree s d first = (t : Records) × Stood s d first t
 
 -- what a shape takes, with p for a branch and q for a mark
 abbrev pub label_weight : (p q : ℕ) → Label → ℕ

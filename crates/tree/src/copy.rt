@@ -1,7 +1,8 @@
 // Copies of nodes and branches.
-ghost use Rattle.std.specs.Prelude.{◌≡◌, ◌≢◌};
+ghost use Rattle.std.specs.Prelude.{◌≡◌, ◌≢◌, ◌<◌};
 ghost use Rattle.shape.specs.Shapes.{Label};
-ghost use Rattle.tree.specs.Links.{Records, item, Copiable, Copied, CopiedOne};
+ghost use Rattle.tree.specs.Memory.{look, live, next_of, with_next, Written};
+ghost use Rattle.tree.specs.Links.{Records, item, place, Copiable, Copied, CopiedOne};
 
 use crate::records::{Branch, Mark, NONE, Store};
 
@@ -30,24 +31,47 @@ impl Store<'_> {
     // A copy, in new records, of the branch or mark at `at` and what is below it; nothing follows it.
     #[cycle(copy_branch_copy_node)]
     pub(crate) fn copy_branch(&mut self, left: usize, at: u32) -> u32
-        requires { (((t : Records) × Copiable self.old left at t)) × ((at ≢ 0xffff_ffff)) }
+        requires linked { at ≢ 0xffff_ffff }
+        requires tree { (t : Records) × Copiable self.old left at t }
         ensures { (l : Label) (below rest : Records) → Copiable self.old left at (item at l below rest) → (u : Records) × CopiedOne self.old self.new left l below result u }
     {
         if left == 0 {
-            let m = self.mark(at);
-            self.push_mark(Mark {
-                rule: m.rule,
-                next: NONE,
-            })
+            let m = self.marks.get(at);
+            self.marks.push(Mark { next: NONE, ..m })
         } else {
-            let b = self.branch(at);
+            let b = self.branches.get(at);
             let below = self.copy_node(left - 1, b.below);
-            self.push_branch(Branch {
-                low: b.low,
-                high: b.high,
+            self.branches.push(Branch {
                 below,
                 next: NONE,
+                ..b
             })
+        }
+    }
+
+    // The link of the record at `at` to the next one of its node or cell.
+    fn next(&self, left: usize, at: u32) -> u32
+        requires { 0 < live self.now (place left at) }
+        ensures { result ≡ next_of (look self.now (place left at)) }
+    {
+        if left == 0 {
+            self.marks.get(at).next
+        } else {
+            self.branches.get(at).next
+        }
+    }
+
+    // Makes `next` follow the record at `at`.
+    fn link(&mut self, left: usize, at: u32, next: u32)
+        requires { 0 < live self.old (place left at) }
+        ensures { Written self.old self.new (place left at) (with_next (look self.old (place left at)) next) }
+    {
+        if left == 0 {
+            let m = self.marks.get(at);
+            self.marks.set(at, Mark { next, ..m });
+        } else {
+            let b = self.branches.get(at);
+            self.branches.set(at, Branch { next, ..b });
         }
     }
 }

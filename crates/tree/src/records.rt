@@ -1,6 +1,13 @@
-// The records of a tree, in two slices that the caller lends. They are taken one after the other and never given back.
+// The records of a tree.
+ghost use Rattle.std.specs.Prelude.{◌≡◌};
+ghost use Rattle.shape.specs.Shapes.{piece};
+ghost use Rattle.shape.specs.Meaning.{within};
 
-// A branch of a node: its interval, what is below it, and the next branch of the node.
+use crate::pool::Pool;
+use routing::ends::Ends;
+
+// A branch of a node: its interval, what is below it, and the next branch of the node. Links are 32 bits wide, and `NONE` leads nowhere,
+// so that a record takes the caller 16 bytes.
 #[derive(Clone, Copy)]
 pub struct Branch {
     pub low: u32,
@@ -9,7 +16,25 @@ pub struct Branch {
     pub next: u32,
 }
 
+impl Branch {
+    pub(crate) fn ends(self) -> Ends
+        ensures { result ≡ record { low = self.low; high = self.high } }
+    {
+        Ends {
+            low: self.low,
+            high: self.high,
+        }
+    }
+
+    pub(crate) fn is_within(self, ends: Ends) -> bool
+        ensures { result ≡ within ends (piece self.low self.high) }
+    {
+        ends.low <= self.low && self.high <= ends.high
+    }
+}
+
 // A mark of a cell: the number of a rule, and the next mark of the cell.
+// `next` is a plain link, `NONE` at the last: records lie in memory that the caller lends.
 #[derive(Clone, Copy)]
 pub struct Mark {
     pub rule: u16,
@@ -19,11 +44,20 @@ pub struct Mark {
 // The link to nothing.
 pub const NONE: u32 = 0xffff_ffff;
 
-// So many branches and so many marks are taken.
+impl Mark {
+    ghost use Rattle.tree.specs.Memory.{link_of};
+
+    // The link to the next mark, if there is one.
+    pub fn next(self) -> Option<u32>
+        ensures { result ≡ link_of self.next }
+    {
+        (self.next != NONE).then_some(self.next)
+    }
+}
+
+// The branches and the marks of a tree, in two slices that the caller lends.
 #[derive(Drop)]
 pub struct Store<'a> {
-    pub(crate) branches: &'a mut [Branch],
-    pub(crate) marks: &'a mut [Mark],
-    pub(crate) used: usize,
-    pub(crate) marked: usize,
+    pub(crate) branches: Pool<'a, Branch>,
+    pub(crate) marks: Pool<'a, Mark>,
 }

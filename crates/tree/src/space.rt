@@ -1,5 +1,5 @@
 // The space that records take.
-ghost use Rattle.std.specs.Prelude.{◌≡◌, ◌+◌};
+ghost use Rattle.std.specs.Prelude.{◌≡◌, ◌+◌, if◌then◌else◌};
 ghost use Rattle.tree.specs.Reads.{sat};
 
 // So many branches and marks, as far as 64 bits go.
@@ -25,6 +25,14 @@ pub(crate) const ONE_MARK: Space = Space {
 };
 
 impl Space {
+    // All of it where it is needed, else nothing.
+    pub(crate) fn when(self, needed: bool) -> Space
+        ensures { result ≡ (if needed then self else record { branches = 0; marks = 0 }) }
+    {
+        if needed { self } else { NOTHING }
+    }
+
+    // Not `+`, which says nothing of where it stops.
     pub(crate) fn plus(self, other: Space) -> Space
         ensures { result ≡ record { branches = sat (self.branches + other.branches); marks = sat (self.marks + other.marks) } }
     {

@@ -2,7 +2,7 @@
 ghost use Rattle.std.specs.Prelude.{◌≡◌, ◌-◌, ◌<◌, ◌≤◌, List, [], ◌∷◌, length, drop, replicate};
 ghost use Rattle.shape.specs.Meaning.{Cell as AnyCell, cells};
 ghost use Rattle.tree.specs.Links.{Records, shape};
-ghost use Rattle.tree.specs.Reads.{Stood};
+ghost use Rattle.tree.specs.Reads.{Stood, SomeTree};
 ghost use Rattle.tree.specs.Tours.{Touring, Reached};
 
 use crate::records::{NONE, Store};
@@ -10,6 +10,7 @@ use routing::ends::Ends;
 use routing::rule::Message;
 
 // Where a walk stands: whether there is a cell, its low corner as a message, its first mark, and the branches above it.
+// `found` is a flag beside the arrays and never an option around them: so it is in each answer of a walk.
 #[derive(Clone, Copy)]
 pub struct Walk {
     pub found: bool,
@@ -29,38 +30,39 @@ impl Store<'_> {
         first: u32,
     ) -> Walk
         requires walk { (cs : List AnyCell) × Touring self.now within.now from lows depth first cs }
-        requires few { (length within.now ≤ 8) × (0 < length within.now) × (depth ≤ length within.now) }
+        requires few { length within.now ≤ 8 }
+        requires some { 0 < length within.now }
+        requires depth { depth ≤ length within.now }
         requires clear { drop (length within.now) lows ≡ replicate (8 - length within.now) 0 }
         ensures { (cs : List AnyCell) → Touring self.now within.now from lows depth first cs → Reached self.now within.now result cs }
     {
         let mut path = from;
         let mut corner = lows;
+        // it goes down and up again, so this is no loop over the intervals
         let mut k = depth;
         let mut at = first;
         while k < within.len() {
-            if at != NONE {
-                let b = self.branch(at);
-                let ends = within[k];
-                if b.low < ends.low || ends.high < b.high {
-                    at = b.next;
-                    continue;
+            match self.branches.follow(at) {
+                Some(b) if b.is_within(within[k]) => {
+                    path[k] = at;
+                    corner[k] = b.low;
+                    k += 1;
+                    at = b.below;
                 }
-                path[k] = at;
-                corner[k] = b.low;
-                k += 1;
-                at = b.below;
-                continue;
+                Some(b) => at = b.next,
+                None if k == 0 => {
+                    return Walk {
+                        found: false,
+                        corner: [0; 8],
+                        marks: NONE,
+                        path,
+                    };
+                }
+                None => {
+                    k -= 1;
+                    at = self.branches.get(path[k]).next;
+                }
             }
-            if k == 0 {
-                return Walk {
-                    found: false,
-                    corner: [0; 8],
-                    marks: NONE,
-                    path,
-                };
-            }
-            k -= 1;
-            at = self.branch(path[k]).next;
         }
         Walk {
             found: true,
@@ -72,8 +74,9 @@ impl Store<'_> {
 
     // The first cell of the tree at `first`.
     pub(crate) fn first_cell(&self, within: &[Ends], first: u32) -> Walk
-        requires stood { (t : Records) × Stood self.now (length within.now) first t }
-        requires few { (length within.now ≤ 8) × (0 < length within.now) }
+        requires tree { SomeTree self.now (length within.now) first }
+        requires few { length within.now ≤ 8 }
+        requires some { 0 < length within.now }
         ensures { (t : Records) → Stood self.now (length within.now) first t → Reached self.now within.now result (cells within.now [] (shape t)) }
     {
         self.settle(within, [NONE; 8], [0; 8], 0, first)
@@ -82,12 +85,13 @@ impl Store<'_> {
     // The cell after the one where the walk stands.
     pub(crate) fn next_cell(&self, within: &[Ends], walk: Walk) -> Walk
         requires walk { (c : AnyCell) × ((cs : List AnyCell) × Reached self.now within.now walk (c ∷ cs)) }
-        requires few { (length within.now ≤ 8) × (0 < length within.now) }
+        requires few { length within.now ≤ 8 }
+        requires some { 0 < length within.now }
         ensures { (c : AnyCell) (cs : List AnyCell) → Reached self.now within.now walk (c ∷ cs) → Reached self.now within.now result cs }
     {
         let path = walk.path;
         let last = within.len() - 1;
-        let at = self.branch(path[last]).next;
+        let at = self.branches.get(path[last]).next;
         self.settle(within, path, walk.corner, last, at)
     }
 }

@@ -2,7 +2,6 @@
 ghost use Rattle.std.specs.Prelude.{◌≡◌, ◌<◌, [], length, IfErr};
 ghost use Rattle.routing.specs.Fields.{widths_of};
 ghost use Rattle.tree.specs.Means.{Means};
-ghost use Rattle.tree.specs.Calls.{SomeRules};
 
 use decision::kind::Kind;
 use file::reader::TableFile;
@@ -13,7 +12,7 @@ use std::alloc::{AllocError, Global};
 use std::io;
 use std::process::ExitCode;
 use tree::all_match::{Lack, Tree};
-use tree::records::{Branch, Mark, NONE};
+use tree::records::{Branch, Mark};
 
 // Whatever the memory holds, the tree begins empty.
 const NO_BRANCH: Branch = Branch {
@@ -43,8 +42,7 @@ fn memory(alloc: Global) -> Result<(Vec<Branch>, Vec<Mark>), AllocError> {
 fn grow<K: Kind>(tree: &mut Tree<'_>, widths: Widths, file: TableFile<'_, K>) -> Result<usize, Full>
     requires empty { Means tree.old [] }
     requires fields { tree.old.fields ≡ length (widths_of widths) }
-    ensures means { SomeRules tree.new }
-    ensures few { IfErr result (λ full. full.rules < 512) }
+    ensures { IfErr result (λ full. full.rules < 512) }
 {
     let count = file.count().min(512);
     for rule in 0..count {
@@ -60,18 +58,14 @@ fn grow<K: Kind>(tree: &mut Tree<'_>, widths: Widths, file: TableFile<'_, K>) ->
 }
 
 // The numbers of the rules that match a message.
-fn print_matching(rt: &impl Print, tree: &Tree<'_>, message: Message) -> io::Result<()>
-    requires { SomeRules tree.now }
-{
+fn print_matching(rt: &impl Print, tree: &Tree<'_>, message: Message) -> io::Result<()> {
     let mut at = tree.look_up(message);
-    for k in 0..512 {
-        if at == NONE {
-            break;
-        }
-        let comma = if k > 0 { "," } else { "" };
-        let mark = tree.mark(at);
+    let mut comma = "";
+    while let Some(link) = at {
+        let mark = tree.mark(link);
         print!(rt; "{comma} {}", mark.rule)?;
-        at = mark.next;
+        comma = ",";
+        at = mark.next();
     }
     println!(rt)
 }
@@ -82,9 +76,7 @@ fn print_tree<K: Kind>(
     tree: &Tree<'_>,
     file: TableFile<'_, K>,
     rules: usize,
-) -> io::Result<()>
-    requires { SomeRules tree.now }
-{
+) -> io::Result<()> {
     let used = tree.used();
     println!(rt;
         "tree: {rules} rules, {} branches, {} marks",
@@ -111,11 +103,7 @@ pub(crate) fn print_space<K: Kind>(
     let rules = match grow(&mut tree, widths, file) {
         Ok(rules) => rules,
         Err(Full { rules, lack }) => {
-            let lacked = match lack {
-                Lack::Branches => "branches",
-                Lack::Marks => "marks",
-            };
-            println!(rt; "tree: rule {} lacks {lacked}", rules + 1)?;
+            println!(rt; "tree: rule {} lacks {lack}", rules + 1)?;
             rules
         }
     };

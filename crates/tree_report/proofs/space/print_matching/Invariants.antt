@@ -1,6 +1,9 @@
-use Rattle.std.proofs.Common.{ℕ, List}
-use Rattle.tree.specs.Tours.{Lists}
+use Rattle.std.proofs.Common.{IfSome}
+use Rattle.tree.specs.Calls.{Marked, marks_left}
 use Rattle.tree_report.proofs.space.print_matching.Given as goal
 
-abbrev pub invariant-loop-k : goal.invariant-loop-k
-invariant-loop-k g l = (ns : List ℕ) × Lists l.tree.store l.at ns
+abbrev pub invariant-loop-at : goal.invariant-loop-at
+invariant-loop-at l = IfSome l.at (Marked l.tree)
+
+abbrev pub decreases-loop-at : goal.decreases-loop-at
+decreases-loop-at l = marks_left l.tree l.at

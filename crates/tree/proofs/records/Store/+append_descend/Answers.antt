@@ -1,36 +1,14 @@
-use Rattle.std.proofs.Common.{ℕ, ◌<◌, List, length, sym, refl, ap, subst, arith}
-use Rattle.std.specs.List.{AllByRecursion}
+use Rattle.std.proofs.Common.{◌≡◌, ℕ, ◌<◌, List, ◌∷◌, sym, refl, ◌∙◌, subst, arith}
 use Rattle.shape.specs.Shapes.{Shape, under, ready, insert}
-use Rattle.shape.specs.Meaning.{Upward}
 use Rattle.tree.specs.Links.{Records, shape, Fits, Became}
 use Rattle.tree.specs.declared.records.Store.{Store}
 use Rattle.routing.specs.declared.ends.Ends.{Ends}
+use Rattle.tree.proofs.Places.{inside_branch, wrote_branch}
 use Rattle.tree.proofs.Copies.{written_branch}
-use Rattle.tree.proofs.Changing.{start, alive_branch, see_branch, stands, pass, less, done}
+use Rattle.tree.proofs.Changing.{start, there_branch, see_branch, stands, pass, less, done}
 use Rattle.tree.proofs.Grows.{Grows}
-use Rattle.tree.proofs.Descends.{first_ends, other_ends, no_ends, under_past, below_fits, alive_after, turn_change, turned, ends_split, ahead, onward, chained, under_grows, insert_grows}
+use Rattle.tree.proofs.Descends.{first_ends, other_ends, under_past, below_fits, alive_after, turn_change, turned, split, ahead, onward, chained, under_grows, insert_grows}
 use Rattle.tree.proofs.records.Store.+append_descend.Goals as goal
-
-pub append-add_mark-requires : goal.append-add_mark-requires
-append-add_mark-requires t c =
-    let (u, K) = c.requires.0 in
-    let z = no_ends _ _ c.requires.1.0 c.if-left-eq0.true in (
-      u,
-      subst (λ xs. Fits c.args.self.now 0 c.args.first u (insert xs c.args.i (shape u))) z
-          (subst (λ d. Fits c.args.self.now d c.args.first u (insert c.args.rule.now c.args.i (shape u))) c.if-left-eq0.true K),
-    )
-
-pub append-returns-then-left-eq0 : goal.append-returns-then-left-eq0
-append-returns-then-left-eq0 t c u K =
-    let z = no_ends _ _ c.requires.1.0 c.if-left-eq0.true in
-    let J =
-    subst (λ xs. Fits c.args.self.now 0 c.args.first u (insert xs c.args.i (shape u))) z
-    (subst (λ d. Fits c.args.self.now d c.args.first u (insert c.args.rule.now c.args.i (shape u))) c.if-left-eq0.true K) in
-    let (v, B) = c.add_mark.ensures u J in (
-      v,
-      subst (λ d. Became c.args.self.now c.add_mark.new.self d u (insert c.args.rule.now c.args.i (shape u)) c.add_mark.result v) (sym c.if-left-eq0.true)
-          (subst (λ xs. Became c.args.self.now c.add_mark.new.self 0 u (insert xs c.args.i (shape u)) c.add_mark.result v) (sym z) B),
-    )
 
 -- with a field left, it is the first interval here and the others below
 abbrev here : List Ends → Shape → Shape
@@ -43,89 +21,91 @@ lower_grows : (xs : List Ends) (i : ℕ) (sh : Shape) → Grows sh (lower xs i s
 lower_grows xs i sh = under_grows _ _ _ (insert_grows (other_ends xs) i) sh
 
 open_ends : (s : Store) (d first : ℕ) (xs : List Ends) (i : ℕ) (t : Records)
-    → 0 < length xs → Fits s d first t (insert xs i (shape t)) → Fits s d first t (lower xs i (here xs (shape t)))
-open_ends s d first xs i t l K = subst (λ ys. Fits s d first t (insert ys i (shape t))) (ends_split xs l) K
+    → xs ≡ first_ends xs ∷ other_ends xs → Fits s d first t (insert xs i (shape t)) → Fits s d first t (lower xs i (here xs (shape t)))
+open_ends s d first xs i t e K = subst (λ ys. Fits s d first t (insert ys i (shape t))) e K
 
-pub append-prepare-first-requires : goal.append-prepare-first-requires
-append-prepare-first-requires t c =
+pub append-prepare-first-requires-clause-room : goal.append-prepare-first-requires-clause-room
+append-prepare-first-requires-clause-room t c =
     let xs = c.args.rule.now in
-    let (u, K) = c.requires.0 in
-    let ne = c.if-left-eq0.false in
-    let pos : 0 < length xs = omega (arith, c.requires.1.0) in
-    let J = open_ends _ _ _ xs c.args.i u pos K in
-    ((u, ahead (here xs) (lower xs c.args.i) _ _ _ u (lower_grows xs c.args.i) J), (omega arith, (subst (AllByRecursion Upward) (ends_split xs pos) c.requires.1.1).0))
+    let (u, K) = c.requires.room in
+    let pos : 0 < c.args.left = omega (arith, c.if-left-eq0.false) in
+    let X = split _ xs c.requires.rule pos in
+    let J = open_ends _ _ _ xs c.args.i u X.is K in
+    (u, ahead (here xs) (lower xs c.args.i) _ _ _ u (lower_grows xs c.args.i) J)
 
 pub append-descend-requires : goal.append-descend-requires
 append-descend-requires t c =
     let xs = c.args.rule.now in
-    let (u, K) = c.requires.0 in
-    let ne = c.if-left-eq0.false in
-    let pos : 0 < length xs = omega (arith, c.requires.1.0) in
-    let J = open_ends _ _ _ xs c.args.i u pos K in
+    let (u, K) = c.requires.room in
+    let pos : 0 < c.args.left = omega (arith, c.if-left-eq0.false) in
+    let X = split _ xs c.requires.rule pos in
+    let J = open_ends _ _ _ xs c.args.i u X.is K in
     let (v, A) = c.prepare-first.ensures u (ahead (here xs) (lower xs c.args.i) _ _ _ u (lower_grows xs c.args.i) J) in
-    (omega (arith, c.decreases), ((v, onward (here xs) (lower xs c.args.i) _ _ _ _ _ u v J A), (omega (arith, c.requires.1.0, ap length (ends_split xs pos)), (subst (AllByRecursion Upward) (ends_split xs pos) c.requires.1.1).1)))
+    (omega (arith, c.decreases), (pos, ((v, onward (here xs) (lower xs c.args.i) _ _ _ _ _ u v J A), X.rest)))
 
 pub append-returns : goal.append-returns
 append-returns t c u K =
     let xs = c.args.rule.now in
-    let ne = c.if-left-eq0.false in
-    let pos : 0 < length xs = omega (arith, c.requires.1.0) in
-    let J = open_ends _ _ _ xs c.args.i u pos K in
+    let pos : 0 < c.args.left = omega (arith, c.if-left-eq0.false) in
+    let X = split _ xs c.requires.rule pos in
+    let J = open_ends _ _ _ xs c.args.i u X.is K in
     let (v, A) = c.prepare-first.ensures u (ahead (here xs) (lower xs c.args.i) _ _ _ u (lower_grows xs c.args.i) J) in
     let (w, B) = c.descend.ensures v (onward (here xs) (lower xs c.args.i) _ _ _ _ _ u v J A) in (
       w,
-      subst (λ ys. Became c.args.self.now c.descend.new.self c.args.left u (insert ys c.args.i (shape u)) c.prepare-first.result w) (sym (ends_split xs pos))
+      subst (λ ys. Became c.args.self.now c.descend.new.self c.args.left u (insert ys c.args.i (shape u)) c.prepare-first.result w) (sym X.is)
           (chained (here xs) (lower xs c.args.i) _ _ _ _ _ _ u v w A B),
     )
 
-pub descend-loop-at-init : goal.descend-loop-at-init
-descend-loop-at-init t c = start _ _ _ _
+pub descend-loop-b-init : goal.descend-loop-b-init
+descend-loop-b-init t c = start _ _ _ _
 
-pub descend-branch-b-requires : goal.descend-branch-b-requires
-descend-branch-b-requires t c =
-    alive_branch (c.loop-at.invariant _ c.requires.0.1) (omega (arith, c.requires.1.0)) c.loop-at-test.true
+pub descend-follow-requires : goal.descend-follow-requires
+descend-follow-requires t c = λ ne. there_branch (c.loop-b.invariant _ c.requires.room.1) ne c.requires.branches
 
-pub descend-loop-at-smaller-then-b-ends : goal.descend-loop-at-smaller-then-b-ends
-descend-loop-at-smaller-then-b-ends t c =
-    let W = c.loop-at.invariant _ c.requires.0.1 in
-    let F = see_branch _ _ _ _ W (omega (arith, c.requires.1.0)) c.loop-at-test.true c.branch-b.ensures in
+pub descend-loop-b-smaller : goal.descend-loop-b-smaller
+descend-loop-b-smaller t c =
+    let W = c.loop-b.invariant _ c.requires.room.1 in
+    let F = see_branch W c.in-Some.ensures.more c.requires.branches c.in-Some.ensures.found in
     less W F _ (stands W F).holds.3
 
-pub descend-loop-at-preserved-then-b-ends : goal.descend-loop-at-preserved-then-b-ends
-descend-loop-at-preserved-then-b-ends t c tree K =
-    let W = c.loop-at.invariant tree K in
-    let F = see_branch _ _ _ _ W (omega (arith, c.requires.1.0)) c.loop-at-test.true c.branch-b.ensures in
-    pass W F _ (under_past c.args.ends.low c.args.ends.high c.args.rest.now c.args.i W F c.then-b-ends.either)
+pub descend-loop-b-preserved : goal.descend-loop-b-preserved
+descend-loop-b-preserved t c tree K =
+    let W = c.loop-b.invariant tree K in
+    let F = see_branch W c.in-Some.ensures.more c.requires.branches c.in-Some.ensures.found in
+    pass W F _ (under_past c.args.ends.low c.args.ends.high c.args.rest.now c.args.i W F (sym c.is_within.ensures ∙ c.if-is_within.false))
 
 pub descend-append-below-requires : goal.descend-append-below-requires
 descend-append-below-requires t c =
-    let W = c.loop-at.invariant _ c.requires.0.1 in
-    let F = see_branch _ _ _ _ W (omega (arith, c.requires.1.0)) c.loop-at-test.true c.branch-b.ensures in
-    (omega (arith, c.decreases, c.requires.1.0), ((F.below, below_fits c.args.ends.low c.args.ends.high c.args.rest.now c.args.i W F c.if-b-ends.false c.if-ends-b.false), (omega (arith, c.requires.1.0), c.requires.1.1)))
+    let W = c.loop-b.invariant _ c.requires.room.1 in
+    let F = see_branch W c.in-Some.ensures.more c.requires.branches c.in-Some.ensures.found in
+    let ins = sym c.is_within.ensures ∙ c.if-is_within.true in
+    (omega (arith, c.decreases, c.requires.branches), ((F.below, below_fits c.args.ends.low c.args.ends.high c.args.rest.now c.args.i W F ins), c.requires.rest))
 
-pub descend-write_branch-requires : goal.descend-write_branch-requires
-descend-write_branch-requires t c =
-    let W = c.loop-at.invariant _ c.requires.0.1 in
-    let F = see_branch _ _ _ _ W (omega (arith, c.requires.1.0)) c.loop-at-test.true c.branch-b.ensures in
-    let (u, B) = c.append-below.ensures F.below (below_fits c.args.ends.low c.args.ends.high c.args.rest.now c.args.i W F c.if-b-ends.false c.if-ends-b.false) in
-    alive_after c.args.ends.low c.args.ends.high c.args.rest.now c.args.i W F c.if-b-ends.false c.if-ends-b.false _ _ u B (omega (arith, c.requires.1.0))
+pub descend-set-requires : goal.descend-set-requires
+descend-set-requires t c =
+    let W = c.loop-b.invariant _ c.requires.room.1 in
+    let F = see_branch W c.in-Some.ensures.more c.requires.branches c.in-Some.ensures.found in
+    let ins = sym c.is_within.ensures ∙ c.if-is_within.true in
+    let (u, B) = c.append-below.ensures F.below (below_fits c.args.ends.low c.args.ends.high c.args.rest.now c.args.i W F ins) in
+    inside_branch c.append-below.new.self c.loop-b.at (omega (arith, (stands W F).holds.0)) (alive_after c.args.ends.low c.args.ends.high c.args.rest.now c.args.i W F ins _ _ u B c.requires.branches)
 
-pub descend-loop-at-smaller : goal.descend-loop-at-smaller
-descend-loop-at-smaller t c =
-    let W = c.loop-at.invariant _ c.requires.0.1 in
-    let F = see_branch _ _ _ _ W (omega (arith, c.requires.1.0)) c.loop-at-test.true c.branch-b.ensures in
-    let (u, B) = c.append-below.ensures F.below (below_fits c.args.ends.low c.args.ends.high c.args.rest.now c.args.i W F c.if-b-ends.false c.if-ends-b.false) in
-    let Q = written_branch _ _ c.args.left _ _ (λ z. omega (arith, c.requires.1.0)) c.write_branch.ensures in
-    less W F _
-    (turn_change c.args.ends.low c.args.ends.high c.args.rest.now c.args.i W F c.if-b-ends.false c.if-ends-b.false _ _ _ u B Q).holds.3
+pub descend-loop-b-smaller-then-is_within : goal.descend-loop-b-smaller-then-is_within
+descend-loop-b-smaller-then-is_within t c =
+    let W = c.loop-b.invariant _ c.requires.room.1 in
+    let F = see_branch W c.in-Some.ensures.more c.requires.branches c.in-Some.ensures.found in
+    let ins = sym c.is_within.ensures ∙ c.if-is_within.true in
+    let (u, B) = c.append-below.ensures F.below (below_fits c.args.ends.low c.args.ends.high c.args.rest.now c.args.i W F ins) in
+    let Q = written_branch _ _ c.args.left _ _ (λ z. omega (arith, c.requires.branches)) (wrote_branch _ _ _ _ (omega (arith, (stands W F).holds.0)) c.set.ensures) in
+    less W F _ (turn_change c.args.ends.low c.args.ends.high c.args.rest.now c.args.i W F ins _ _ _ u B Q).holds.3
 
-pub descend-loop-at-preserved : goal.descend-loop-at-preserved
-descend-loop-at-preserved t c tree K =
-    let W = c.loop-at.invariant tree K in
-    let F = see_branch _ _ _ _ W (omega (arith, c.requires.1.0)) c.loop-at-test.true c.branch-b.ensures in
-    let (u, B) = c.append-below.ensures F.below (below_fits c.args.ends.low c.args.ends.high c.args.rest.now c.args.i W F c.if-b-ends.false c.if-ends-b.false) in
-    let Q = written_branch _ _ c.args.left _ _ (λ z. omega (arith, c.requires.1.0)) c.write_branch.ensures in
-    turned c.args.ends.low c.args.ends.high c.args.rest.now c.args.i W F c.if-b-ends.false c.if-ends-b.false _ _ _ u B Q
+pub descend-loop-b-preserved-then-is_within : goal.descend-loop-b-preserved-then-is_within
+descend-loop-b-preserved-then-is_within t c tree K =
+    let W = c.loop-b.invariant tree K in
+    let F = see_branch W c.in-Some.ensures.more c.requires.branches c.in-Some.ensures.found in
+    let ins = sym c.is_within.ensures ∙ c.if-is_within.true in
+    let (u, B) = c.append-below.ensures F.below (below_fits c.args.ends.low c.args.ends.high c.args.rest.now c.args.i W F ins) in
+    let Q = written_branch _ _ c.args.left _ _ (λ z. omega (arith, c.requires.branches)) (wrote_branch _ _ _ _ (omega (arith, (stands W F).holds.0)) c.set.ensures) in
+    turned c.args.ends.low c.args.ends.high c.args.rest.now c.args.i W F ins _ _ _ u B Q
 
 pub descend-returns : goal.descend-returns
-descend-returns t c tree K = done (c.loop-at.invariant tree K) refl c.loop-at-test.false
+descend-returns t c tree K = done (c.loop-b.invariant tree K) refl c.in_default.ensures.end

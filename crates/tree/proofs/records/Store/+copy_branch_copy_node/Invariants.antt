@@ -1,5 +1,6 @@
 use Rattle.std.proofs.Common.{◌+◌, ◌*◌}
 use Rattle.shape.specs.Shapes.{Label}
+use Rattle.tree.specs.Memory.{in_use}
 use Rattle.tree.specs.Links.{Records, chain}
 use Rattle.tree.proofs.Copies.{Ready, Midway}
 use Rattle.tree.proofs.records.Store.+copy_branch_copy_node.Given as goal
@@ -13,9 +14,9 @@ decreases-copy_node l = 2 * l.left + 1
 abbrev pub invariant-copy_node-loop-at : goal.invariant-copy_node-loop-at
 invariant-copy_node-loop-at l =
     (r : Records) (m : Label) (b : Records)
-    → Ready l.initial.self l.left l.initial.at l.initial.last (l.initial.self.used + l.initial.self.marked) r m b
+    → Ready l.initial.self l.left l.initial.at l.initial.last (in_use l.initial.self) r m b
     → Midway l.initial.self l.left l.initial.last r m b l.self l.at l.last
-    (l.initial.self.used + l.initial.self.marked)
+    (in_use l.initial.self)
 
 abbrev pub decreases-copy_node-loop-at : goal.decreases-copy_node-loop-at
-decreases-copy_node-loop-at l = chain (l.initial.self.used + l.initial.self.marked) l.self l.left l.at
+decreases-copy_node-loop-at l = chain (in_use l.initial.self) l.self l.left l.at

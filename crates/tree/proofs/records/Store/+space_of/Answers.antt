@@ -1,53 +1,38 @@
-use Rattle.std.proofs.Common.{◌+◌, ◌<◌, refl, ap, arith}
+use Rattle.std.proofs.Common.{◌+◌, ◌<◌, refl, arith}
 use Rattle.tree.specs.Links.{shape}
 use Rattle.tree.specs.Reads.{weight}
-use Rattle.tree.proofs.Reading.{begin, stays_branch, stays_mark, seen_branch, seen_mark, ended, below, after, less, no_below}
-use Rattle.tree.proofs.Weights.{toward_none, toward_more, toward_all, branch_weighs, mark_weighs}
+use Rattle.tree.proofs.Reading.{begin, stays_branch, seen_branch, ended, below, after, less}
+use Rattle.tree.proofs.Weights.{toward_none, toward_more, toward_all, branch_weighs}
 use Rattle.tree.proofs.records.Store.+space_of.Goals as goal
 
-pub loop-at-init : goal.loop-at-init
-loop-at-init t c u S = begin _ _ _ u _ S (toward_none _ _ (λ p q. refl))
+pub loop-b-init : goal.loop-b-init
+loop-b-init t c u S = begin _ _ _ u _ S (toward_none _ _ (λ p q. refl))
 
-pub mark-m-requires : goal.mark-m-requires
-mark-m-requires t c = stays_mark (c.loop-at.invariant _ c.requires.1) c.if-left-eq0.true c.loop-at-test.true
-
-pub loop-at-smaller-then-left-eq0 : goal.loop-at-smaller-then-left-eq0
-loop-at-smaller-then-left-eq0 t c =
-    let W = c.loop-at.invariant _ c.requires.1 in
-    less W (seen_mark W c.if-left-eq0.true c.loop-at-test.true c.mark-m.ensures)
-
-pub loop-at-preserved-then-left-eq0 : goal.loop-at-preserved-then-left-eq0
-loop-at-preserved-then-left-eq0 t c u S =
-    let W = c.loop-at.invariant u S in
-    let F = seen_mark W c.if-left-eq0.true c.loop-at-test.true c.mark-m.ensures in
-    after W F _
-    (toward_more _ mark_weighs c.plus-sum.ensures (λ p q. omega (arith, ap (λ b. weight p q (shape b)) (no_below W F))))
-
-pub branch-b-requires : goal.branch-b-requires
-branch-b-requires t c = stays_branch (c.loop-at.invariant _ c.requires.1) (omega (arith, c.if-left-eq0.false)) c.loop-at-test.true
+pub follow-requires : goal.follow-requires
+follow-requires t c = λ ne. stays_branch (c.loop-b.invariant _ c.requires.1) (omega (arith, c.if-left-eq0.false)) ne
 
 pub space_of-requires : goal.space_of-requires
 space_of-requires t c =
     let pos : 0 < c.args.left = omega (arith, c.if-left-eq0.false) in
-    let W = c.loop-at.invariant _ c.requires.1 in
-    let F = seen_branch W pos c.loop-at-test.true c.branch-b.ensures in
+    let W = c.loop-b.invariant _ c.requires.1 in
+    let F = seen_branch W pos c.in-Some.ensures.more c.in-Some.ensures.found in
     (omega (arith, c.decreases), (F.below, below W F))
 
-pub loop-at-smaller : goal.loop-at-smaller
-loop-at-smaller t c =
+pub loop-b-smaller : goal.loop-b-smaller
+loop-b-smaller t c =
     let pos : 0 < c.args.left = omega (arith, c.if-left-eq0.false) in
-    let W = c.loop-at.invariant _ c.requires.1 in
-    less W (seen_branch W pos c.loop-at-test.true c.branch-b.ensures)
+    let W = c.loop-b.invariant _ c.requires.1 in
+    less W (seen_branch W pos c.in-Some.ensures.more c.in-Some.ensures.found)
 
-pub loop-at-preserved : goal.loop-at-preserved
-loop-at-preserved t c u S =
+pub loop-b-preserved : goal.loop-b-preserved
+loop-b-preserved t c u S =
     let pos : 0 < c.args.left = omega (arith, c.if-left-eq0.false) in
-    let W = c.loop-at.invariant u S in
-    let F = seen_branch W pos c.loop-at-test.true c.branch-b.ensures in
+    let W = c.loop-b.invariant u S in
+    let F = seen_branch W pos c.in-Some.ensures.more c.in-Some.ensures.found in
     after W F _
     (λ T.
-    toward_more _ (c.space_of.ensures F.below (below W F)) c.plus-sum-in-loop-at.ensures (λ p q. refl)
+    toward_more _ (c.space_of.ensures F.below (below W F)) c.plus-sum.ensures (λ p q. refl)
     (toward_more (λ p q. weight p q (shape F.below) + weight p q (shape F.rest)) branch_weighs c.plus.ensures (λ p q. omega arith) T))
 
 pub returns : goal.returns
-returns t c u S = toward_all (λ p q. refl) (ended (c.loop-at.invariant u S) c.loop-at-test.false)
+returns t c u S = toward_all (λ p q. refl) (ended (c.loop-b.invariant u S) c.in_default.ensures.end)

@@ -1,13 +1,15 @@
-use Rattle.std.proofs.Common.{◌+◌, ◌≤◌}
+use Rattle.std.proofs.Common.{ℕ, ◌<◌, ◌≤◌}
+use Rattle.tree.specs.Memory.{in_use}
 use Rattle.tree.specs.Links.{Records, shape, Fits, tail, chain}
 use Rattle.tree.proofs.Changing.{Walk}
 use Rattle.tree.proofs.records.Store.fill_after.Given as goal
 
-abbrev pub invariant-loop-at : goal.invariant-loop-at
-invariant-loop-at l =
-    ((t : Records) → Fits l.initial.self l.left l.first t (tail l.low l.high (shape t))
-    → Walk l.initial.self l.left l.first (tail l.low l.high) t l.self l.at (l.initial.self.used + l.initial.self.marked) (tail l.want l.high))
-    × (l.want ≤ l.high)
+abbrev pub invariant-loop-b : goal.invariant-loop-b
+invariant-loop-b l = record {
+  walk : (d : ℕ) (t : Records) → 0 < d → Fits l.initial.self d l.first t (tail l.span.low l.span.high (shape t))
+      → Walk l.initial.self d l.first (tail l.span.low l.span.high) t l.self l.at (in_use l.initial.self) (tail l.want l.span.high);
+  upward : l.want ≤ l.span.high;
+}
 
-abbrev pub decreases-loop-at : goal.decreases-loop-at
-decreases-loop-at l = chain (l.initial.self.used + l.initial.self.marked) l.self l.left l.at
+abbrev pub decreases-loop-b : goal.decreases-loop-b
+decreases-loop-b l = chain (in_use l.initial.self) l.self 1 l.at

@@ -1,22 +1,15 @@
-use Rattle.std.proofs.Common.{◌≡◌, ℕ, zero, suc, ◌-◌, [], length, drop, replicate, ap, ◌∙◌, arith}
+use Rattle.std.proofs.Common.{[], length}
+use Rattle.std.proofs.lemmas.List.{drop-replicate}
 use Rattle.shape.specs.Meaning.{cells}
 use Rattle.tree.specs.Links.{shape}
 use Rattle.tree.proofs.Cells.{set_out}
 use Rattle.tree.proofs.records.Store.first_cell.Goals as goal
 
--- zeros past any of them are zeros
-zeros : (n d : ℕ) → drop {A = ℕ} d (replicate n 0) ≡ replicate (n - d) 0
-zeros n zero = ap (λ k. replicate {A = ℕ} k 0) (let e : n ≡ n - 0 = omega arith in e)
-zeros zero (suc d) = ap (λ k. replicate {A = ℕ} k 0) (let e : 0 ≡ 0 - suc d = omega arith in e)
-zeros (suc n) (suc d) = zeros n d ∙ ap (λ k. replicate {A = ℕ} k 0) (let e : n - d ≡ suc n - suc d = omega arith in e)
+pub settle-requires-clause-walk : goal.settle-requires-clause-walk
+settle-requires-clause-walk c = (cells c.args.within.now [] (shape c.requires.tree.0), set_out c.requires.tree.0 c.requires.tree.1)
 
-pub settle-requires : goal.settle-requires
-settle-requires c =
-    record {
-      walk = (cells c.args.within.now [] (shape c.requires.stood.0), set_out c.requires.stood.0 c.requires.stood.1);
-      few = (c.requires.few.0, c.requires.few.1, omega arith);
-      clear = zeros 8 (length c.args.within.now);
-    }
+pub settle-requires-clause-clear : goal.settle-requires-clause-clear
+settle-requires-clause-clear c = drop-replicate (length c.args.within.now) 8 0
 
 pub returns : goal.returns
 returns c t S = c.settle.ensures (cells c.args.within.now [] (shape t)) (set_out t S)

@@ -1,21 +1,21 @@
 use Rattle.std.proofs.Common.{◌∙◌, arith}
-use Rattle.tree.proofs.Frames.{taken}
+use Rattle.tree.proofs.Frames.{branch_inside}
 use Rattle.tree.proofs.Fills.{gap_end, gap_there, no_gap}
-use Rattle.tree.proofs.Places.{place_branch}
 use Rattle.tree.proofs.records.Store.gap_before.Goals as goal
 
-pub returns-then-next-eq-NONE : goal.returns-then-next-eq-NONE
-returns-then-next-eq-NONE c t S e = gap_end c.args.self.now c.args.left c.args.from c.args.high t S (e ∙ c.if-next-eq-NONE.true) c.requires.inside.1
+pub follow-requires : goal.follow-requires
+follow-requires c =
+    λ ne.
+    let (d, t, pos, S, e) = c.requires.node in
+    branch_inside c.args.self.now d c.args.next t e ne S (λ z. omega (arith, pos, z))
 
-pub branch-upper-requires : goal.branch-upper-requires
-branch-upper-requires c =
-    let (t, S, e) = c.requires.stands in
-    rw (place_branch c.args.left c.args.next (λ z. omega (arith, c.requires.inside.0))) at (taken c.args.self.now c.args.left c.args.next t S e c.if-next-eq-NONE.false)
+pub returns-in_default : goal.returns-in_default
+returns-in_default c d t pos S e = gap_end c.args.self.now d c.args.span t S (e ∙ c.in_default.ensures.end) c.requires.upward
 
-pub returns-then-from-upper : goal.returns-then-from-upper
-returns-then-from-upper c t S e =
-    gap_there c.args.self.now c.args.left c.args.next c.args.from c.args.high _ _ _ _ t S e c.if-next-eq-NONE.false c.requires.inside.0 c.branch-upper.ensures c.requires.inside.1 c.min.result c.min.ensures c.if-from-upper.true
+pub returns-then-span-upper : goal.returns-then-span-upper
+returns-then-span-upper c d t pos S e =
+    gap_there c.args.self.now d c.args.next c.args.span t S e c.in-Some.ensures.more pos _ c.in-Some.ensures.found c.requires.upward c.min.result c.min.ensures c.if-span-upper.true
 
 pub returns : goal.returns
-returns c t S e =
-    no_gap c.args.self.now c.args.left c.args.next c.args.from c.args.high _ _ _ _ t S e c.if-next-eq-NONE.false c.requires.inside.0 c.branch-upper.ensures c.requires.inside.1 c.if-from-upper.false
+returns c d t pos S e =
+    no_gap c.args.self.now d c.args.next c.args.span t S e c.in-Some.ensures.more pos _ c.in-Some.ensures.found c.requires.upward c.if-span-upper.false

@@ -1,18 +1,14 @@
-use Rattle.std.proofs.Common.{arith}
-use Rattle.tree.proofs.Cells.{leave, leave_alive}
+use Rattle.tree.proofs.Cells.{leave, leave_there}
 use Rattle.tree.proofs.records.Store.next_cell.Goals as goal
 
-pub branch-at-requires : goal.branch-at-requires
-branch-at-requires c = leave_alive c.requires.walk.1.1.4 c.requires.few.1
+pub get-at-requires : goal.get-at-requires
+get-at-requires c = leave_there c.requires.walk.1.1.4 c.requires.some
 
-pub settle-requires : goal.settle-requires
-settle-requires c =
-    let R = c.requires.walk.1.1 in
-    record {
-      walk = (c.requires.walk.1.0, leave R.4 c.requires.few.1 c.branch-at.ensures);
-      few = (c.requires.few.0, c.requires.few.1, omega arith);
-      clear = R.2;
-    }
+pub settle-requires-clause-walk : goal.settle-requires-clause-walk
+settle-requires-clause-walk c = (c.requires.walk.1.0, leave c.requires.walk.1.1.4 c.requires.some c.get-at.ensures)
+
+pub settle-requires-clause-clear : goal.settle-requires-clause-clear
+settle-requires-clause-clear c = c.requires.walk.1.1.2
 
 pub returns : goal.returns
-returns c x cs R = c.settle.ensures cs (leave R.4 c.requires.few.1 c.branch-at.ensures)
+returns c x cs R = c.settle.ensures cs (leave R.4 c.requires.some c.get-at.ensures)

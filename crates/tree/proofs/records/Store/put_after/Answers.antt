@@ -1,22 +1,17 @@
-use Rattle.std.proofs.Common.{sym, subst, arith}
-use Rattle.shape.specs.Shapes.{piece}
-use Rattle.tree.specs.Memory.{rec, next_of, with_next, Written, Pushed}
+use Rattle.std.proofs.Common.{length, sym, ap, arith, length-set}
+use Rattle.tree.specs.declared.records.Branch.{Branch}
+use Rattle.tree.proofs.Places.{read_branch, pushed_branch, wrote_branch}
 use Rattle.tree.proofs.records.Store.put_after.Goals as goal
 
-pub write_branch-requires : goal.write_branch-requires
-write_branch-requires c = omega (arith, c.requires.0, c.push_branch-new.ensures.new.alive c.args.at)
+pub set-requires : goal.set-requires
+set-requires c = omega (arith, c.requires.inside, ap length c.push-new.ensures.records, length-set {A = Branch})
 
 pub returns : goal.returns
 returns c =
     let s = c.args.self.now in
-    let read = c.branch-b.ensures in (
-      c.push_branch-new.new.self,
-      (
-        c.push_branch-new.result,
-        record {
-          small = c.push_branch-new.ensures.low;
-          pushed = subst (λ r. Pushed s c.push_branch-new.new.self c.push_branch-new.result (rec (piece c.args.low c.args.high) 0xffff_ffff (next_of r))) (sym read) c.push_branch-new.ensures.new;
-          written = subst (λ r. Written c.push_branch-new.new.self c.write_branch.new.self c.args.at (with_next r c.push_branch-new.result)) (sym read) c.write_branch.ensures;
-        },
-      ),
+    let read = sym (read_branch s c.args.at c.get-b.result (omega arith) c.get-b.ensures) in
+    let pushed = pushed_branch s _ _ _ c.push-new.ensures in
+    let written = wrote_branch _ _ _ _ (omega arith) c.set.ensures in (
+      record { branches = c.push-new.new.self; marks = s.marks },
+      (c.push-new.result, record { small = c.push-new.ensures.low; pushed = rw (← read) pushed; written = rw (← read) written }),
     )
