@@ -7,7 +7,7 @@ use Rattle.std.proofs.lemmas.Bool.{cond-false, ne_eqb}
 use Rattle.std.specs.List.{AllByRecursion}
 use Rattle.shape.specs.Shapes.{Label, piece, rule, branches_of, marks_of, Shape, ShapeSet, bare, part, grown}
 use Rattle.shape.specs.Meaning.{Sound, Proper, Tidy}
-use Rattle.tree.specs.Memory.{look, RecSet, label_of, below_of, next_of}
+use Rattle.tree.specs.Memory.{look, RecSet, label_of, below_of, next_of, in_use}
 use Rattle.tree.specs.Links.{Records, none, item, shape, root, place, Holds, Stands}
 use Rattle.tree.specs.Reads.{Ordered, Stood}
 use Rattle.tree.specs.Means.{Meant, Means}
@@ -80,7 +80,7 @@ pub recovered : {x : Tree} {T : List (List Ends)} → Means x T → Meant x T
 recovered {x} {T} e =
     let s = x.store in
     let d = x.fields in
-    let n = s.branches.taken + s.marks.taken in
+    let n = in_use s in
     let u : Records = read_at n s d x.root in
     let ok : AllByRecursion (Proper d) T = ∥∥₁_elim e (all_prop (Proper d) (proper_prop d) T) (λ m. m.proper) in
     let one-tree : IsProp (Stands s d u × (root u ≡ x.root) × (shape u ≡ grown d T)) =
