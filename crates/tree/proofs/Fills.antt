@@ -9,7 +9,7 @@ use Rattle.routing.specs.declared.ends.Ends.{Ends}
 use Rattle.tree.specs.declared.records.Store.{Store}
 use Rattle.tree.proofs.Places.{live_most, place_branch}
 use Rattle.tree.specs.declared.records.Branch.{Branch}
-use Rattle.tree.proofs.Frames.{kept, empty, Found, unchanged, then, found_branch}
+use Rattle.tree.proofs.Frames.{kept, Found, unchanged, then, found_branch}
 use Rattle.tree.proofs.Changing.{Walk, followed, inserted, stands, fits, ended}
 use Rattle.tree.proofs.Grows.{Grows, same_grows, part_grows}
 use Rattle.tree.proofs.Copies.{new_branch, written_branch}
@@ -147,11 +147,7 @@ module _
           (written_branch s₁ s₂ d at _ ne (subst (λ x. Written s₁ s₂ at (with_next x new)) read N.written))
           refl refl).change
 
--- the gap before a node's branches, by what was read
-pub gap_end : (s : Store) (d : ℕ) (span : Ends) (t : Records) → Stands s d t → root t ≡ 0xffff_ffff → Upward span → Gap span (shape t) (Some span)
-gap_end s d span t S e l =
-    subst (λ t. Gap span (shape t) (Some span)) (sym (empty s d t S.holds e)) (gaps_end span.low span.high l)
-
+-- The gap before a node's branches, by what was read.
 module _
     (s : Store) (d next : ℕ) (span : Ends) (t : Records) (S : Stands s d t) (e : root t ≡ next) (ne : next ≡ 0xffff_ffff → ⊥)
     (pos : 0 < d) (b : Branch) (read : slice_get s.branches.records.now next ≡ Some b) (l : Upward span) where

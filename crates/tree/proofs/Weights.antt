@@ -335,12 +335,6 @@ new_after w high to {k = k} V e is =
     past : (w high : ℕ) → ltb w (high + 1) ≡ leb w high
     past w high = grind (arith, nat_tests)
 
--- a branch that is neither inside nor cut on both sides has one part outside
-pub one_part :
-    (p q low high a b : ℕ) (below : Shape) → (leb low a && leb b high) ≡ false → ((a < low) × (b ≤ high)) ⊎ (low ≤ a)
-    → p + weight p q below ≡ parts_out p q low high a b below
-one_part p q low high a b below x y = grind (arith, nat_tests)
-
 -- A TURN OF THE COUNT: the gap before a branch and its parts are added
 pub turned :
     (low high : ℕ) (f : Shape → Shape) (w w' a b : ℕ) (below rest : Shape) {k gap parts k₁ k₂ : Space} {g : ℕ → ℕ → ℕ}

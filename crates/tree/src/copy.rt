@@ -30,7 +30,7 @@ impl Store<'_> {
 
     // A copy, in new records, of the branch or mark at `at` and what is below it; nothing follows it.
     #[cycle(copy_branch_copy_node)]
-    pub(crate) fn copy_branch(&mut self, left: usize, at: u32) -> u32
+    fn copy_branch(&mut self, left: usize, at: u32) -> u32
         requires linked { at ≢ 0xffff_ffff }
         requires tree { (t : Records) × Copiable self.old left at t }
         ensures { (l : Label) (below rest : Records) → Copiable self.old left at (item at l below rest) → (u : Records) × CopiedOne self.old self.new left l below result u }
@@ -49,7 +49,8 @@ impl Store<'_> {
         }
     }
 
-    // The link of the record at `at` to the next one of its node or cell.
+    // The link of the record at `at` to the next one of its node or cell. A cell has marks and a node branches; a trait over both would be
+    // longer than the two arms, here and in `link`.
     fn next(&self, left: usize, at: u32) -> u32
         requires { 0 < live self.now (place left at) }
         ensures { result ≡ next_of (look self.now (place left at)) }

@@ -19,8 +19,8 @@ impl<R: Copy> Pool<'_, R> {
         self.records[at as usize]
     }
 
-    // The record that a link leads to. Siblings are read by this in a loop: an iterator over them would have to know the tree that they
-    // belong to, for leave to read each.
+    // The record that a link leads to. A loop along a node or a cell asks for each in turn; an iterator would be no plainer, since only
+    // the tree that the records make up shows that each of its steps is allowed.
     pub(crate) fn follow(&self, link: u32) -> Option<R>
         requires { link ≢ 0xffff_ffff → link < length self.now.records.now }
         ensures end { IfNone result (link ≡ 0xffff_ffff) }

@@ -38,7 +38,7 @@ impl Store<'_> {
     {
         let mut path = from;
         let mut corner = lows;
-        // it goes down and up again, so this is no loop over the intervals
+        // A loop over the intervals would be no plainer: the walk goes down and up again.
         let mut k = depth;
         let mut at = first;
         while k < within.len() {

@@ -10,6 +10,3 @@ settle-requires-clause-walk c = (cells c.args.within.now [] (shape c.requires.tr
 
 pub settle-requires-clause-clear : goal.settle-requires-clause-clear
 settle-requires-clause-clear c = drop-replicate (length c.args.within.now) 8 0
-
-pub returns : goal.returns
-returns c t S = c.settle.ensures (cells c.args.within.now [] (shape t)) (set_out t S)

@@ -1,6 +1,6 @@
-use Rattle.std.proofs.Common.{◌∙◌, arith}
+use Rattle.std.proofs.Common.{arith}
 use Rattle.tree.proofs.Frames.{branch_inside}
-use Rattle.tree.proofs.Fills.{gap_end, gap_there, no_gap}
+use Rattle.tree.proofs.Fills.{gap_there, no_gap}
 use Rattle.tree.proofs.records.Store.gap_before.Goals as goal
 
 pub follow-requires : goal.follow-requires
@@ -8,9 +8,6 @@ follow-requires c =
     λ ne.
     let (d, t, pos, S, e) = c.requires.node in
     branch_inside c.args.self.now d c.args.next t e ne S (λ z. omega (arith, pos, z))
-
-pub returns-in_default : goal.returns-in_default
-returns-in_default c d t pos S e = gap_end c.args.self.now d c.args.span t S (e ∙ c.in_default.ensures.end) c.requires.upward
 
 pub returns-then-span-upper : goal.returns-then-span-upper
 returns-then-span-upper c d t pos S e =
