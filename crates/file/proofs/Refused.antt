@@ -2,7 +2,7 @@
 use Rattle.std.proofs.Common.{◌≡◌, ℕ, ◌+◌, ◌-◌, ◌*◌, ◌≤◌, Bool, true, false, cond, List, length, Some, None, Option, refl, arith}
 use Rattle.std.proofs.lemmas.Bool.{or_parts, ltb-false, eqb-true, not-false}
 use Rattle.std.proofs.lemmas.Bool.Decides.{nat_tests}
-use Rattle.file.specs.Layout.{file_refusal, header_refusal, counts_refusal, row_place, row_of, low_at, byte, four, fields, rules, rows_at, decisions_at, file_length, width_bytes, first_of}
+use Rattle.file.specs.Layout.{file_refusal, body_refusal, header_refusal, counts_refusal, row_place, row_of, low_at, byte, four, fields, rules, rows_at, decisions_at, file_length, width_bytes, first_of}
 use Rattle.std.specs.Option.{option_map}
 use Rattle.routing.specs.declared.ends.Ends.{Ends}
 use Rattle.routing.specs.Firsts.{first_some}
