@@ -60,11 +60,12 @@ fn grow<K: Kind>(tree: &mut Tree<'_>, widths: Widths, file: TableFile<'_, K>) ->
 // The numbers of the rules that match a message.
 fn print_matching(rt: &impl Print, tree: &Tree<'_>, message: Message) -> io::Result<()> {
     let mut at = tree.look_up(message);
-    let mut comma = "";
+    let mut first = true;
     while let Some(link) = at {
+        let comma = if first { "" } else { "," };
         let mark = tree.mark(link);
         print!(rt; "{comma} {}", mark.rule)?;
-        comma = ",";
+        first = false;
         at = mark.next();
     }
     println!(rt)

@@ -3,7 +3,7 @@ use Rattle.tree.specs.Calls.{Marked, marks_left}
 use Rattle.tree_report.proofs.space.print_matching.Given as goal
 
 abbrev pub invariant-loop-at : goal.invariant-loop-at
-invariant-loop-at l = IfSome l.at (Marked l.tree)
+invariant-loop-at g l = IfSome l.at (Marked l.tree)
 
 abbrev pub decreases-loop-at : goal.decreases-loop-at
-decreases-loop-at l = marks_left l.tree l.at
+decreases-loop-at g l = marks_left l.tree l.at
