@@ -60,6 +60,7 @@ impl Kind for Handling {
 
     ghost again = { Prim.search (rules, common_steps) };
 
+    // wider than equality: keep time and note do not count
     fn same(self, other: Handling) -> bool {
         self.queue == other.queue && self.class == other.class
     }

@@ -1,32 +1,27 @@
 // Widths, messages, intervals and classes.
-use crate::ends::one_field;
+use crate::common::{one_field, told};
 use decision::class::Class;
 use decision::handling::Handling;
 use decision::kind::Kind;
 use routing::ends::Ends;
 use routing::refusal::{Layer, Refusal};
 use routing::rule::matches;
-use routing::widths::{Widths, WidthsFault};
+use routing::widths::Widths;
 use std::test::Fail;
 
-// The number and the place of the refusal of widths, (0, 0) for none.
-fn widths_told(widths: &[u8]) -> (u8, usize) {
-    match Widths::test(widths) {
-        Ok(_) => (0, 0),
-        Err(fault) => {
-            let refusal = fault.refusal(Layer::Table);
-            (refusal.number, refusal.place)
-        }
-    }
+// The number and the place of the refusal of widths, if they are refused.
+fn widths_told(widths: &[u8]) -> Option<(u8, usize)> {
+    let fault = Widths::test(widths).err()?;
+    Some(told(fault.refusal(Layer::Table)))
 }
 
 #[test]
 fn widths_are_tested(rt: HostRuntime) {
-    assert_eq!(rt; widths_told(&[1, 32]), (0, 0));
-    assert_eq!(rt; widths_told(&[]), (3, 1));
-    assert_eq!(rt; widths_told(&[8, 8, 8, 8, 8, 8, 8, 8, 8]), (3, 1));
-    assert_eq!(rt; widths_told(&[8, 33, 0]), (8, 2));
-    assert_eq!(rt; widths_told(&[8, 32, 0]), (8, 3));
+    assert_eq!(rt; widths_told(&[1, 32]), None);
+    assert_eq!(rt; widths_told(&[]), Some((3, 1)));
+    assert_eq!(rt; widths_told(&[8, 8, 8, 8, 8, 8, 8, 8, 8]), Some((3, 1)));
+    assert_eq!(rt; widths_told(&[8, 33, 0]), Some((8, 2)));
+    assert_eq!(rt; widths_told(&[8, 32, 0]), Some((8, 3)));
 }
 
 #[test]

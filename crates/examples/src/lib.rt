@@ -2,7 +2,7 @@
 #![tactic(auto)]
 
 #[cfg(test)]
-mod ends;
+mod common;
 #[cfg(test)]
 mod fields;
 #[cfg(test)]

@@ -1,24 +1,17 @@
 // Files that are written in stages, and each refusal of the writer.
-use crate::ends::one_field;
+use crate::common::{one_field, told};
 use decision::class::Class;
 use decision::handling::Handling;
 use decision::queue::Queue;
 use fault::writing::WriteFault;
 use file::reader::TableFile;
 use file::rules::{RuleList, Rules};
-use routing::refusal::Refusal;
 use routing::rule::Rule;
 use std::test::Fail;
 use writer::stage::{DecisionStage, RowStage, Stage};
 use writer::whole::{rewrite, write_table};
 
 const FIVE: Queue = Queue { queue: 5 };
-
-// The number and the place of a refusal.
-fn told(fault: WriteFault) -> (u8, usize) {
-    let refusal = Refusal::from(fault);
-    (refusal.number, refusal.place)
-}
 
 // Why a step was refused, if it was. The stage is given up.
 fn step_told<P, E: Into<WriteFault>>(answer: Result<Stage<P>, E>) -> Option<(u8, usize)> {
@@ -27,7 +20,7 @@ fn step_told<P, E: Into<WriteFault>>(answer: Result<Stage<P>, E>) -> Option<(u8,
             next.abandon();
             None
         }
-        Err(fault) => Some(told(fault.into())),
+        Err(fault) => Some(told::<WriteFault>(fault.into())),
     }
 }
 
@@ -35,7 +28,7 @@ fn step_told<P, E: Into<WriteFault>>(answer: Result<Stage<P>, E>) -> Option<(u8,
 fn length_told<E: Into<WriteFault>>(answer: Result<usize, E>) -> Option<(u8, usize)> {
     match answer {
         Ok(_) => None,
-        Err(fault) => Some(told(fault.into())),
+        Err(fault) => Some(told::<WriteFault>(fault.into())),
     }
 }
 

@@ -5,7 +5,7 @@ ghost use Rattle.std.specs.Result.{result_err};
 ghost use Rattle.routing.specs.Fields.{widths_of};
 ghost use Rattle.routing.specs.Firsts.{first_some};
 ghost use Rattle.fault.specs.Faults.{file_reason};
-ghost use Rattle.file.specs.Layout.{header_refusal, counts_refusal, file_refusal, row_place, layout_of, fields, rules, width_bytes, pair_from, row_of};
+ghost use Rattle.file.specs.Layout.{header_refusal, counts_refusal, file_refusal, row_place, layout_of, width_bytes, pair_from, row_of};
 
 use crate::layout::Layout;
 use crate::number::four_at;
@@ -17,11 +17,17 @@ use std::array;
 // The ends where there is no field.
 pub const NO_ENDS: Ends = Ends { low: 0, high: 0 };
 
-// What the header counts, or the first of its own rules that it breaks: numbers 1 to 5.
-fn read_header(bytes: &[u8], kind: u8, size: u16) -> Result<Layout, FileFault>
-    ensures { MatchResult result
-        (λ l. (header_refusal bytes.now kind ≡ None) × (l ≡ layout_of bytes.now size))
-        (λ e. header_refusal bytes.now kind ≡ Some (file_reason e)) }
+// A file with what its header counts.
+#[derive(Clone, Copy)]
+pub struct Counted<'a> {
+    bytes: &'a [u8],
+    layout: Layout,
+    ghost of_header: { layout ≡ layout_of bytes.now layout.size },
+}
+
+// The header's own rules: numbers 1 to 5.
+fn check_header(bytes: &[u8], kind: u8) -> Result<(), FileFault>
+    ensures { option_map file_reason (result_err result) ≡ header_refusal bytes.now kind }
 {
     let [
         edition,
@@ -58,30 +64,8 @@ fn read_header(bytes: &[u8], kind: u8, size: u16) -> Result<Layout, FileFault>
     if *code != kind {
         return Err(FileFault::Kind);
     }
-    let rules = u16::from_be_bytes([*high, *low]);
-    if rules > 512 {
+    if u16::from_be_bytes([*high, *low]) > 512 {
         return Err(FileFault::Rules);
-    }
-    Ok(Layout {
-        fields: *fields,
-        rules,
-        size,
-    })
-}
-
-// What the counts give: numbers 6 and 7.
-fn check_counts(bytes: &[u8], layout: Layout) -> Result<(), FileFault>
-    requires { layout ≡ layout_of bytes.now layout.size }
-    ensures { option_map file_reason (result_err result) ≡ counts_refusal bytes.now layout.size }
-{
-    if four_at(bytes, 8) as usize != layout.rows() {
-        return Err(FileFault::Offset(8));
-    }
-    if four_at(bytes, 12) as usize != layout.decisions() {
-        return Err(FileFault::Offset(12));
-    }
-    if bytes.len() != layout.length() {
-        return Err(FileFault::Length(bytes.len()));
     }
     Ok(())
 }
@@ -97,35 +81,63 @@ fn pair_at(bytes: &[u8], at: usize) -> Ends
     }
 }
 
-// The pairs of a rule, counted from 0.
-pub fn row_at(bytes: &[u8], layout: Layout, rule: u16) -> [Ends; 8]
-    requires { layout ≡ layout_of bytes.now layout.size }
-    ensures { result ≡ row_of bytes.now rule }
-{
-    let at = layout.row(rule);
-    let fields = usize::from(layout.fields);
-    array::from_fn(|k| {
-        if k < fields {
-            pair_at(bytes, at + 8 * k)
-        } else {
-            NO_ENDS
-        }
-    })
-}
-
-// The first ends that make no interval of their field: number 9.
-fn check_rows(bytes: &[u8], layout: Layout, widths: Widths) -> Result<(), FileFault>
-    requires of_header { layout ≡ layout_of bytes.now layout.size }
-    requires of_widths { widths_of widths ≡ width_bytes bytes.now }
-    ensures { option_map file_reason (result_err result) ≡ option_map (λ place. (9, place)) (first_some (row_place bytes.now) layout.rules) }
-{
-    for rule in 0..layout.rules {
-        if let Some(field) = widths.ends_fault(&row_at(bytes, layout, rule)) {
-            let place = layout.row(rule) + 8 * usize::from(field) - 8;
-            return Err(FileFault::Ends(place));
+impl<'a> Counted<'a> {
+    // With decisions of a size.
+    pub fn new(bytes: &'a [u8], size: u16) -> Counted<'a>
+        ensures file { result.bytes.now ≡ bytes.now }
+        ensures layout { result.layout ≡ layout_of bytes.now size }
+    {
+        Counted {
+            bytes,
+            layout: Layout::of(bytes, size),
         }
     }
-    Ok(())
+
+    // What the counts give: numbers 6 and 7.
+    fn check_counts(&self) -> Result<(), FileFault>
+        ensures { option_map file_reason (result_err result) ≡ counts_refusal self.now.bytes.now self.now.layout.size }
+    {
+        if four_at(self.bytes, 8) as usize != self.layout.rows() {
+            return Err(FileFault::Offset(8));
+        }
+        if four_at(self.bytes, 12) as usize != self.layout.decisions() {
+            return Err(FileFault::Offset(12));
+        }
+        if self.bytes.len() != self.layout.length() {
+            return Err(FileFault::Length(self.bytes.len()));
+        }
+        Ok(())
+    }
+
+    // The pairs of a rule, counted from 0.
+    pub fn row(&self, rule: u16) -> [Ends; 8]
+        ensures { result ≡ row_of self.now.bytes.now rule }
+    {
+        let at = self.layout.row(rule);
+        let fields = usize::from(self.layout.fields);
+        let bytes = self.bytes;
+        array::from_fn(|k| {
+            if k < fields {
+                pair_at(bytes, at + 8 * k)
+            } else {
+                NO_ENDS
+            }
+        })
+    }
+
+    // The first ends that make no interval of their field: number 9.
+    fn check_rows(&self, widths: Widths) -> Result<(), FileFault>
+        requires { widths_of widths ≡ width_bytes self.now.bytes.now }
+        ensures { option_map file_reason (result_err result) ≡ option_map (λ place. (9, place)) (first_some (row_place self.now.bytes.now) self.now.layout.rules) }
+    {
+        for rule in 0..self.layout.rules {
+            if let Some(field) = widths.ends_fault(&self.row(rule)) {
+                let place = self.layout.row(rule) + 8 * usize::from(field) - 8;
+                return Err(FileFault::Ends(place));
+            }
+        }
+        Ok(())
+    }
 }
 
 // Every rule that a file for decisions of a kind and a size keeps, or the first that it breaks.
@@ -133,8 +145,9 @@ fn check_rows(bytes: &[u8], layout: Layout, widths: Widths) -> Result<(), FileFa
 pub fn check(bytes: &[u8], kind: u8, size: u16) -> Result<(), FileFault>
     ensures { option_map file_reason (result_err result) ≡ file_refusal bytes.now kind size }
 {
-    let layout = read_header(bytes, kind, size)?;
-    check_counts(bytes, layout)?;
-    let widths = Widths::test(&bytes[16..layout.rows()])?;
-    check_rows(bytes, layout, widths)
+    check_header(bytes, kind)?;
+    let file = Counted::new(bytes, size);
+    file.check_counts()?;
+    let widths = Widths::test(&bytes[16..file.layout.rows()])?;
+    file.check_rows(widths)
 }

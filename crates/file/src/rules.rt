@@ -4,7 +4,7 @@ ghost use Rattle.std.specs.List.{slice_get};
 ghost use Rattle.routing.specs.declared.ends.Ends.{Ends as Pair};
 ghost use Rattle.file.specs.Contents.{blank, rows_of, decisions_of, row_of_rule, decision_of_rule};
 
-use crate::checks::{NO_ENDS, row_at};
+use crate::checks::{Counted, NO_ENDS};
 use crate::number::part_of;
 use crate::reader::TableFile;
 use decision::kind::Kind;
@@ -40,7 +40,7 @@ impl<'a, K: Kind> Rules<K> for TableFile<'a, K> {
 
     fn row(&self, rule: usize) -> [Ends; 8] {
         match self.rule(rule) {
-            Some(rule) => row_at(self.bytes, self.layout(), rule),
+            Some(rule) => Counted::new(self.bytes, K::SIZE).row(rule),
             None => [NO_ENDS; 8],
         }
     }

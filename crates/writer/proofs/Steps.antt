@@ -50,10 +50,6 @@ pub decision_granted : (s : Stage Decisions) (code size room : ℕ) → plan_len
     → decision_refusal s code size room ≡ None
 decision_granted s code size room h i e f = rw (ready_granted s room h i, eq-eqb code s.plan.code e, eq-eqb size s.plan.size f)
 
--- all rows stand, all decisions stand
-pub early_granted : {P : Type 0} (s : Stage P) → s.plan.rules ≤ s.done → early_refusal s ≡ None
-early_granted s h = rw (le-ltb s.done s.plan.rules h)
-
 -- where the next row, and the next decision, has room
 pub row_settled : (s : Stage Rows) (es : List Ends) (room : ℕ) → row_refusal s es room ≡ None → row_at s + 8 * plan_fields s.plan ≤ room
 row_settled s es room e =
@@ -66,10 +62,6 @@ decision_settled s code size room e =
     let r = ready_settled s room f.0 in
     let same : size ≡ s.plan.size = eqb-true _ _ (not-false _ (or_parts _ _ (settled _ _ _ f.1).0).1) in
     rw same (decision_room (plan_fields s.plan) s.plan.rules s.plan.size s.done room r.1 r.0)
-
--- the length that a plan gives is that of its file
-pub planned_length : (ws : List ℕ) (n code size : ℕ) (p : Plan) → Planned ws n code size p → plan_length p ≡ file_length (length ws) n size
-planned_length ws n code size p l = ap (λ vs. file_length (length vs) p.rules p.size) l.of_widths ∙ ap (λ m. file_length (length ws) m p.size) l.of_rules ∙ ap (file_length (length ws) n) l.of_size
 
 -- a start that no reason speaks against
 pub start_settled : (ws : List ℕ) (n size room : ℕ) → start_refusal ws n size room ≡ None

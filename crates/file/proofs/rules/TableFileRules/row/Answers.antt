@@ -14,6 +14,7 @@ pub returns-in-Some : goal.returns-in-Some
 returns-in-Some g c =
     let bs = c.args.self.now.bytes.now in
     let there = c.in-Some.ensures in
-    c.row_at.ensures
+    c.row.ensures
+    ∙ ap (λ bytes. row_of bytes c.in-Some.rule) c.new.ensures.file
     ∙ ap (row_of bs) there.0
     ∙ sym (get_or-map-range_with_len (row_of bs) 0 (rules bs) c.args.rule c.args.rule blank (omega (arith, there)) (omega arith))
