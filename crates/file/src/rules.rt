@@ -21,7 +21,7 @@ pub trait Rules<K: Kind> {
         ensures of_rows { result ≡ length (rows self.now) }
         ensures of_decisions { result ≡ length (decisions self.now) };
 
-    // The pairs of a rule, all [0, 0] where there is none.
+    // The pairs of a rule, all [0, 0] where there is none: by a rule of the project no array passes through an option.
     fn row(&self, rule: usize) -> [Ends; 8]
         ensures { result ≡ slice_index_or (rows self.now) rule blank };
 
