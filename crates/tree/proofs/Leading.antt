@@ -17,6 +17,18 @@ use Rattle.tree.proofs.Frames.{empty}
 pub link_is : (n : ℕ) → then_some (not (eqb n 0xffff_ffff)) n ≡ link_of n
 link_is n = elim (eqb n 0xffff_ffff) as (λ b. then_some (not b) n ≡ cond b None (Some n)) [ true ↦ refl | false ↦ refl ]
 
+-- an option that leads on has the link itself
+pub link_on : (n m : ℕ) → Some m ≡ link_of n → (m ≡ n) × (m ≡ 0xffff_ffff → ⊥)
+link_on n m e =
+    ⊎_elim (λ y. let z : Some m ≡ None = subst (λ b. Some m ≡ cond b None (Some n)) y.0 e in cc)
+    (λ z. let same : Some m ≡ Some n = subst (λ b. Some m ≡ cond b None (Some n)) z.0 e in (cc, λ k. z.1 cc))
+    (eqb_tells n 0xffff_ffff)
+
+-- one that does not is the link to nothing
+pub link_end : (n : ℕ) → None ≡ link_of n → n ≡ 0xffff_ffff
+link_end n e =
+    ⊎_elim (λ y. y.1) (λ z. let no : None ≡ Some n = subst (λ b. None ≡ cond b None (Some n)) z.0 e in cc) (eqb_tells n 0xffff_ffff)
+
 module _ (x : Tree) (n : ℕ) (ns : List ℕ) where
   -- marks from a plain link on are marks from the option on
   pub leads : Lists x.store n ns → Leads x (link_of n) ns
