@@ -1,11 +1,13 @@
 -- A mark at the end of a cell. Assumes nothing.
-use Rattle.std.proofs.Common.{◌≡◌, ℕ, ◌+◌, ◌<◌, sym, refl, ap, ◌∙◌, subst, arith}
+use Rattle.std.proofs.Common.{◌≡◌, ℕ, ◌+◌, ◌<◌, slice_get, Some, sym, refl, ap, ◌∙◌, subst, arith}
 use Rattle.shape.specs.Shapes.{Label, rule, Shape, bare, part, branches_of, marks_of, add_mark}
-use Rattle.tree.specs.Memory.{rec, Written, Pushed}
-use Rattle.tree.specs.Links.{Records, none, item, shape, place, Fits, Became}
+use Rattle.tree.specs.Memory.{rec, link_of, Written, Pushed}
+use Rattle.tree.specs.Links.{Records, none, item, shape, place, Fits, Became, chain}
 use Rattle.tree.specs.declared.records.Store.{Store}
 use Rattle.tree.proofs.Frames.{empty, Found, unchanged, topped}
-use Rattle.tree.proofs.Changing.{Walk, inserted, stands, ended}
+use Rattle.tree.specs.declared.records.Mark.{Mark}
+use Rattle.tree.proofs.Leading.{link_on}
+use Rattle.tree.proofs.Changing.{Walk, inserted, stands, ended, see_mark, pass, less}
 
 -- one mark more
 pub marks_add : (i : ℕ) (sh : Shape) → marks_of (add_mark i sh) ≡ marks_of sh + 1
@@ -43,3 +45,20 @@ last_mark {s₀} {first} {i} {t} {s} {at} {n} {bel} {next} {l} s₂ s₃ new W F
     (subst (λ x. Pushed s s₂ (place 0 new) (rec (rule i) 0xffff_ffff x)) (sym (F.rest_from ∙ e)) P)
     (subst (λ x. Written s₂ s₃ (place 0 at) (rec l x new)) (sym F.below_from) Q)
     refl refl)
+
+-- A turn of the loop goes on from a mark to the next.
+module _
+    {s : Store} {first i at n next : ℕ} {t : Records} {m : Mark}
+    (W : Walk s 0 first (add_mark i) t s at n (add_mark i)) (ne : at ≡ 0xffff_ffff → ⊥)
+    (read : slice_get s.marks.records.now at ≡ Some m) (on : Some next ≡ link_of m.next) where
+  -- the work is still to be done from there on
+  pub onto : Walk s 0 first (add_mark i) t s next n (add_mark i)
+  onto =
+      subst (λ a. Walk s 0 first (add_mark i) t s a n (add_mark i)) (sym (link_on m.next next on).0)
+      (pass W (see_mark W ne refl read) (add_mark i) refl)
+
+  -- and the end is nearer
+  pub nearer : chain n s 0 next < chain n s 0 at
+  nearer =
+      let F = see_mark W ne refl read in
+      subst (λ a. chain n s 0 a < chain n s 0 at) (sym (link_on m.next next on).0) (less W F s (stands W F).holds.3)

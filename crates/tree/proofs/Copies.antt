@@ -1,10 +1,11 @@
 -- The loop of copy_node. Assumes nothing.
-use Rattle.std.proofs.Common.{◌≡◌, ℕ, ◌+◌, ◌-◌, ◌<◌, ◌≤◌, sym, refl, ap, ◌∙◌, subst, arith}
+use Rattle.std.proofs.Common.{◌≡◌, ℕ, ◌+◌, ◌-◌, ◌<◌, ◌≤◌, Some, sym, refl, ap, ◌∙◌, subst, arith}
 use Rattle.shape.specs.Shapes.{Label, branches_of, marks_of, siblings}
-use Rattle.tree.specs.Memory.{one, Rec, rec, next_of, with_next, mark_place, live, look, Written, Pushed, in_use}
+use Rattle.tree.specs.Memory.{one, Rec, rec, next_of, with_next, link_of, mark_place, live, look, Written, Pushed, in_use}
 use Rattle.tree.specs.Links.{Records, none, item, shape, root, place, Holds, count, Changed, Copiable, Copied, CopiedOne, chain}
 use Rattle.tree.specs.declared.records.Store.{Store}
 use Rattle.tree.proofs.Places.{one_self, live_most, place_mark, place_branch}
+use Rattle.tree.proofs.Leading.{link_on}
 use Rattle.tree.proofs.Frames.{kept, empty, opened, Found, chain_is, few, unchanged, then, topped}
 
 -- copy_branch
@@ -208,6 +209,13 @@ pub record Midway (s₀ : Store) (d last₀ : ℕ) (r₀ : Records) (l₀ : Labe
   pub below : Records
   pub ready : Ready s d at last n rest label below
   pub finish : (s' : Store) (r' : Records) → Linked s s' d last label below rest r' → (r₀' : Records) × Linked s₀ s' d last₀ l₀ b₀ r₀ r₀'
+
+-- it goes on to what follows
+pub onto :
+    {s₀ : Store} {d last₀ : ℕ} {r₀ : Records} {l₀ : Label} {b₀ : Records} {s : Store} {link last n next : ℕ}
+    → Some next ≡ link_of link → Midway s₀ d last₀ r₀ l₀ b₀ s link last n → Midway s₀ d last₀ r₀ l₀ b₀ s next last n
+onto {s₀} {d} {last₀} {r₀} {l₀} {b₀} {s} {last = last} {n = n} e M =
+    subst (λ at. Midway s₀ d last₀ r₀ l₀ b₀ s at last n) (sym (link_on _ _ e).0) M
 
 -- a turn of the loop copies one record
 pub turn :

@@ -177,16 +177,8 @@ module _ (s : Store) (d first : ℕ) (span : Ends) (t : Records) (K : Fits s d f
           record { stands = K.stands; from = K.from; steps = K.steps; room = omega (arith, K.room, ap branches_of G); room_marks = omega (arith, K.room_marks, ap marks_of G) }
 
 module _ (s : Store) (d first : ℕ) (span : Ends) (t : Records) (K : Fits s d first t (gaps span.low span.high (shape t))) (s₁ : Store) (t₁ : Records) (B : Became s s₁ d t (tail span.low span.high (shape t)) first t₁) where
-  -- there was no gap before the first branch
-  pub first_kept : Gap span (shape t) None → Became s s₁ d t (gaps span.low span.high (shape t)) first t₁
-  first_kept G = record { change = B.change; same = B.same ∙ sym G; from = B.from }
-
   module _ (gap : Ends) (G : Gap span (shape t) (Some gap)) where
-    -- there is room for a branch before it
-    pub room_first : s₁.branches.taken < space (length s₁.branches.records.now)
-    room_first = omega (arith, K.room, ap branches_of G, B.change.branches, ap branches_of B.same, B.change.all)
-
-    -- that branch is the new first
+    -- a branch before it is the new first
     pub first_filled :
         (s₂ : Store) (r : ℕ) → r < 0xffff_ffff → Pushed s₁ s₂ (place d r) (rec (piece gap.low gap.high) 0xffff_ffff first)
         → (u : Records) × Became s s₂ d t (gaps span.low span.high (shape t)) r u

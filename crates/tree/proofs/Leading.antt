@@ -4,8 +4,7 @@ use Rattle.std.specs.Bool.{then_some}
 use Rattle.std.proofs.lemmas.Bool.Decides.{eqb_tells}
 use Rattle.shape.specs.Meaning.{Cell, marks_in}
 use Rattle.tree.specs.Memory.{link_of, in_use}
-use Rattle.tree.specs.Links.{none, shape, chain}
-use Rattle.tree.specs.Reads.{Stood}
+use Rattle.tree.specs.Links.{shape, chain}
 use Rattle.tree.specs.Tours.{Lists, Reached}
 use Rattle.tree.specs.Calls.{Leads, Marked, marks_left}
 use Rattle.tree.specs.declared.all_match.Tree.{Tree}
@@ -13,11 +12,22 @@ use Rattle.tree.specs.declared.records.Store.{Store}
 use Rattle.tree.specs.declared.walk.Walk.{Walk}
 use Rattle.routing.specs.declared.ends.Ends.{Ends}
 use Rattle.tree.proofs.Frames.{empty}
-use Rattle.tree.proofs.Reading.{nothing}
 
 -- a link that was tested is an option
 pub link_is : (n : ℕ) → then_some (not (eqb n 0xffff_ffff)) n ≡ link_of n
 link_is n = elim (eqb n 0xffff_ffff) as (λ b. then_some (not b) n ≡ cond b None (Some n)) [ true ↦ refl | false ↦ refl ]
+
+-- an option that leads on has the link itself
+pub link_on : (n m : ℕ) → Some m ≡ link_of n → (m ≡ n) × (m ≡ 0xffff_ffff → ⊥)
+link_on n m e =
+    ⊎_elim (λ y. let z : Some m ≡ None = subst (λ b. Some m ≡ cond b None (Some n)) y.0 e in cc)
+    (λ z. let same : Some m ≡ Some n = subst (λ b. Some m ≡ cond b None (Some n)) z.0 e in (cc, λ k. z.1 cc))
+    (eqb_tells n 0xffff_ffff)
+
+-- one that does not is the link to nothing
+pub link_end : (n : ℕ) → None ≡ link_of n → n ≡ 0xffff_ffff
+link_end n e =
+    ⊎_elim (λ y. y.1) (λ z. let no : None ≡ Some n = subst (λ b. None ≡ cond b None (Some n)) z.0 e in cc) (eqb_tells n 0xffff_ffff)
 
 module _ (x : Tree) (n : ℕ) (ns : List ℕ) where
   -- marks from a plain link on are marks from the option on
@@ -26,16 +36,6 @@ module _ (x : Tree) (n : ℕ) (ns : List ℕ) where
       ⊎_elim
       (λ y. subst (λ b. Leads x (cond b None (Some n)) ns) (sym y.0) (sym L.2 ∙ ap (λ t. marks_in (shape t)) (empty x.store 0 L.0 L.1.stands.holds (L.1.from ∙ y.1))))
       (λ z. subst (λ b. Leads x (cond b None (Some n)) ns) (sym z.0) L)
-      (eqb_tells n 0xffff_ffff)
-
-  -- and back
-  pub listed : Leads x (link_of n) ns → Lists x.store n ns
-  listed L =
-      ⊎_elim
-      (λ y.
-      let e : ns ≡ [] = subst (λ b. Leads x (cond b None (Some n)) ns) y.0 L in
-      (none, subst (λ k. Stood x.store 0 k none) (sym y.1) (nothing x.store 0), sym e))
-      (λ z. subst (λ b. Leads x (cond b None (Some n)) ns) z.0 L)
       (eqb_tells n 0xffff_ffff)
 
   -- where there is a link there is a mark

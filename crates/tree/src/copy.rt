@@ -1,13 +1,14 @@
 // Copies of nodes and branches.
 ghost use Rattle.std.specs.Prelude.{◌≡◌, ◌≢◌, ◌<◌};
 ghost use Rattle.shape.specs.Shapes.{Label};
-ghost use Rattle.tree.specs.Memory.{look, live, next_of, with_next, Written};
+ghost use Rattle.tree.specs.Memory.{look, live, link_of, next_of, with_next, Written};
 ghost use Rattle.tree.specs.Links.{Records, item, place, Copiable, Copied, CopiedOne};
 
 use crate::records::{Branch, Mark, NONE, Store};
 
 impl Store<'_> {
-    // A copy, in new records, of the node or cell that starts at `first`, with `left` fields left.
+    // A copy, in new records, of the node or cell that starts at `first`, with `left` fields left. The two stay two parameters, here and in
+    // all that goes down the tree: each call passes another pair, `left - 1` and the link below, so a struct would be built and taken apart.
     #[cycle(copy_branch_copy_node)]
     pub(crate) fn copy_node(&mut self, left: usize, first: u32) -> u32
         requires { (t : Records) × Copiable self.old left first t }
@@ -18,12 +19,12 @@ impl Store<'_> {
         }
         let head = self.copy_branch(left, first);
         let mut last = head;
-        let mut at = self.next(left, first);
-        while at != NONE {
-            let new = self.copy_branch(left, at);
+        let mut at = first;
+        while let Some(next) = self.next(left, at) {
+            let new = self.copy_branch(left, next);
             self.link(left, last, new);
             last = new;
-            at = self.next(left, at);
+            at = next;
         }
         head
     }
@@ -49,17 +50,18 @@ impl Store<'_> {
         }
     }
 
-    // The link of the record at `at` to the next one of its node or cell. A cell has marks and a node branches; a trait over both would be
-    // longer than the two arms, here and in `link`.
-    fn next(&self, left: usize, at: u32) -> u32
+    // The link of the record at `at` to the next one of its node or cell, if there is one. A cell has marks and a node branches; a trait
+    // over both would be longer than the two arms, here and in `link`.
+    fn next(&self, left: usize, at: u32) -> Option<u32>
         requires { 0 < live self.now (place left at) }
-        ensures { result ≡ next_of (look self.now (place left at)) }
+        ensures { result ≡ link_of (next_of (look self.now (place left at))) }
     {
-        if left == 0 {
+        let next = if left == 0 {
             self.marks.get(at).next
         } else {
             self.branches.get(at).next
-        }
+        };
+        (next != NONE).then_some(next)
     }
 
     // Makes `next` follow the record at `at`.

@@ -45,25 +45,21 @@ impl Store<'_> {
         requires { Can self.old 0 first (add_mark i) }
         ensures { Does self.old self.new 0 first result (add_mark i) }
     {
-        if first == NONE {
-            return self.marks.push(Mark {
-                rule: i,
-                next: NONE,
-            });
-        }
+        let mark = Mark {
+            rule: i,
+            next: NONE,
+        };
+        let Some(mut last) = self.marks.follow(first) else {
+            return self.marks.push(mark);
+        };
         let mut at = first;
-        loop {
-            let m = self.marks.get(at);
-            if m.next == NONE {
-                let new = self.marks.push(Mark {
-                    rule: i,
-                    next: NONE,
-                });
-                self.marks.set(at, Mark { next: new, ..m });
-                return first;
-            }
-            at = m.next;
+        while let Some(next) = last.next() {
+            at = next;
+            last = self.marks.get(at);
         }
+        let new = self.marks.push(mark);
+        self.marks.set(at, Mark { next: new, ..last });
+        first
     }
 
     // Cuts the branch that has `high` and the number after it, between the two.

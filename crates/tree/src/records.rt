@@ -7,7 +7,8 @@ use crate::pool::Pool;
 use routing::ends::Ends;
 
 // A branch of a node: its interval, what is below it, and the next branch of the node. Links are 32 bits wide, and `NONE` leads nowhere,
-// so that a record takes the caller 16 bytes.
+// so that a record takes the caller 16 bytes. The ends stand in it as `low` and `high`: it is public, four u32 in memory that the caller
+// lends.
 #[derive(Clone, Copy)]
 pub struct Branch {
     pub low: u32,
@@ -41,7 +42,8 @@ pub struct Mark {
     pub next: u32,
 }
 
-// The link to nothing.
+// The link to nothing. Within the crate a link is passed as it lies in the lent records, from one to another; `next` and `follow` make it
+// an option where it is tested.
 pub const NONE: u32 = 0xffff_ffff;
 
 impl Mark {

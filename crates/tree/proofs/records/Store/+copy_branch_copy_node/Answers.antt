@@ -1,9 +1,11 @@
-use Rattle.std.proofs.Common.{ap, arith}
+use Rattle.std.proofs.Common.{◌<◌, refl, ap, subst, arith}
 use Rattle.shape.specs.Shapes.{branches_of, marks_of}
-use Rattle.tree.specs.Links.{none, shape, place}
+use Rattle.tree.specs.Memory.{look, next_of, in_use}
+use Rattle.tree.specs.Links.{none, shape, place, chain}
 use Rattle.tree.proofs.Places.{one_self, at_branch, at_mark, pushed_branch, pushed_mark}
 use Rattle.tree.proofs.Frames.{found_branch, found_mark, branch_inside, mark_inside, taken}
-use Rattle.tree.proofs.Copies.{new_branch, new_mark, below_copiable, found_copiable, copied_one, copied_none, grows, begun, turn, falls, done}
+use Rattle.tree.proofs.Copies.{new_branch, new_mark, below_copiable, found_copiable, copied_one, copied_none, grows, begun, onto, turn, falls, done}
+use Rattle.tree.proofs.Leading.{link_on, link_end}
 use Rattle.tree.proofs.Reading.{below}
 use Rattle.tree.proofs.records.Store.+copy_branch_copy_node.Goals as goal
 
@@ -52,47 +54,57 @@ copy_branch-returns-else-left-eq0 t c l below rest K =
           (new_branch _ _ _ _ _ c.if-left-eq0.false (pushed_branch _ _ _ _ c.push-else-left-eq0.ensures)),
     )
 
-pub copy_node-next-at-requires : goal.copy_node-next-at-requires
-copy_node-next-at-requires t c =
+pub copy_node-loop-next-init : goal.copy_node-loop-next-init
+copy_node-loop-next-init t c =
     let K = c.requires.1 in
     let ne = c.if-first-eq-NONE.false in
     let p = place c.args.left c.args.first in
-    omega (arith, taken _ _ _ _ K.stands K.from ne, grows _ _ _ _ _ _ K ne c.copy_branch-head.ensures p)
+    record {
+      alive = omega (arith, taken _ _ _ _ K.stands K.from ne, grows _ _ _ _ _ _ K ne c.copy_branch-head.ensures p);
+      midway = λ r m b R. record { rest = r; label = m; below = b; ready = R; finish = λ s' r' L. (r', L) };
+    }
 
 pub copy_node-copy_branch-new-requires : goal.copy_node-copy_branch-new-requires
 copy_node-copy_branch-new-requires t c =
-    let B = begun _ _ _ _ _ _ _ c.requires.1 c.if-first-eq-NONE.false c.copy_branch-head.ensures c.next-at.ensures in
-    let M = c.loop-at.invariant _ _ _ B.ready in
-    (omega (arith, c.decreases), (c.loop-at-test.true, (M.rest, M.ready.left)))
+    let B = begun _ _ _ _ _ _ _ c.requires.1 c.if-first-eq-NONE.false c.copy_branch-head.ensures refl in
+    let M = onto c.in-Some.ensures (c.loop-next.invariant.midway _ _ _ B.ready) in
+    (omega (arith, c.decreases), ((link_on _ _ c.in-Some.ensures).1, (M.rest, M.ready.left)))
 
 pub copy_node-link-requires : goal.copy_node-link-requires
 copy_node-link-requires t c =
-    let B = begun _ _ _ _ _ _ _ c.requires.1 c.if-first-eq-NONE.false c.copy_branch-head.ensures c.next-at.ensures in
-    let M = c.loop-at.invariant _ _ _ B.ready in
-    let p = place c.args.left c.loop-at.last in
-    omega (arith, one_self p, M.ready.own p, grows _ _ _ _ _ _ M.ready.left c.loop-at-test.true c.copy_branch-new.ensures p)
+    let B = begun _ _ _ _ _ _ _ c.requires.1 c.if-first-eq-NONE.false c.copy_branch-head.ensures refl in
+    let M = onto c.in-Some.ensures (c.loop-next.invariant.midway _ _ _ B.ready) in
+    let ne = (link_on _ _ c.in-Some.ensures).1 in
+    let p = place c.args.left c.loop-next.last in
+    omega (arith, one_self p, M.ready.own p, grows _ _ _ _ _ _ M.ready.left ne c.copy_branch-new.ensures p)
 
-pub copy_node-next-at-requires-in-loop-at : goal.copy_node-next-at-requires-in-loop-at
-copy_node-next-at-requires-in-loop-at t c =
-    let B = begun _ _ _ _ _ _ _ c.requires.1 c.if-first-eq-NONE.false c.copy_branch-head.ensures c.next-at.ensures in
-    let M = c.loop-at.invariant _ _ _ B.ready in
+pub copy_node-loop-next-smaller : goal.copy_node-loop-next-smaller
+copy_node-loop-next-smaller t c =
+    let B = begun _ _ _ _ _ _ _ c.requires.1 c.if-first-eq-NONE.false c.copy_branch-head.ensures refl in
+    let (is, ne) = link_on _ _ c.in-Some.ensures in
+    let s = c.copy_branch-head.new.self in
+    let left = c.args.left in
+    let after = next_of (look c.link.new.self (place left c.in-Some.next)) in
+    subst (λ at. chain (in_use s) c.link.new.self left after < chain (in_use s) c.loop-next.self left at) is
+    (falls _ _ _ _ _ _ _ _ _ _ _ _ _ _ (onto c.in-Some.ensures (c.loop-next.invariant.midway _ _ _ B.ready)) ne
+    c.copy_branch-new.ensures c.link.ensures refl)
+
+pub copy_node-loop-next-preserved : goal.copy_node-loop-next-preserved
+copy_node-loop-next-preserved t c =
+    let B = begun _ _ _ _ _ _ _ c.requires.1 c.if-first-eq-NONE.false c.copy_branch-head.ensures refl in
+    let M = onto c.in-Some.ensures (c.loop-next.invariant.midway _ _ _ B.ready) in
     let K = M.ready.left in
-    let ne = c.loop-at-test.true in
-    let p = place c.args.left c.loop-at.at in
-    omega (arith, taken _ _ _ _ K.stands K.from ne, grows _ _ _ _ _ _ K ne c.copy_branch-new.ensures p, c.link.ensures.alive p)
-
-pub copy_node-loop-at-smaller : goal.copy_node-loop-at-smaller
-copy_node-loop-at-smaller t c =
-    let B = begun _ _ _ _ _ _ _ c.requires.1 c.if-first-eq-NONE.false c.copy_branch-head.ensures c.next-at.ensures in
-    falls _ _ _ _ _ _ _ _ _ _ _ _ _ _ (c.loop-at.invariant _ _ _ B.ready) c.loop-at-test.true c.copy_branch-new.ensures
-    c.link.ensures c.next-at-in-loop-at.ensures
-
-pub copy_node-loop-at-preserved : goal.copy_node-loop-at-preserved
-copy_node-loop-at-preserved t c r m b R =
-    turn _ _ _ _ _ _ _ _ _ _ _ _ _ _ (c.loop-at.invariant r m b R) c.loop-at-test.true c.copy_branch-new.ensures
-    c.link.ensures c.next-at-in-loop-at.ensures
+    let ne = (link_on _ _ c.in-Some.ensures).1 in
+    let p = place c.args.left c.in-Some.next in
+    record {
+      alive = omega (arith, taken _ _ _ _ K.stands K.from ne, grows _ _ _ _ _ _ K ne c.copy_branch-new.ensures p, c.link.ensures.alive p);
+      midway =
+          λ r m b R.
+          turn _ _ _ _ _ _ _ _ _ _ _ _ _ _ (onto c.in-Some.ensures (c.loop-next.invariant.midway r m b R)) ne
+          c.copy_branch-new.ensures c.link.ensures refl;
+    }
 
 pub copy_node-returns : goal.copy_node-returns
 copy_node-returns t c tree K =
-    let B = begun _ _ _ _ _ _ _ K c.if-first-eq-NONE.false c.copy_branch-head.ensures c.next-at.ensures in
-    done _ _ _ _ _ _ _ _ _ _ _ B (c.loop-at.invariant _ _ _ B.ready) c.loop-at-test.false
+    let B = begun _ _ _ _ _ _ _ K c.if-first-eq-NONE.false c.copy_branch-head.ensures refl in
+    done _ _ _ _ _ _ _ _ _ _ _ B (c.loop-next.invariant.midway _ _ _ B.ready) (link_end _ c.in_default.ensures)

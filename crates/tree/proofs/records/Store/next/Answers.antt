@@ -1,6 +1,9 @@
-use Rattle.std.proofs.Common.{sym, ap, arith}
-use Rattle.tree.specs.Memory.{next_of}
-use Rattle.tree.proofs.Places.{place_mark, place_branch, inside_branch, inside_mark, read_branch, read_mark}
+use Rattle.std.proofs.Common.{◌≡◌, sym, ap, ◌∙◌, arith}
+use Rattle.tree.specs.Memory.{look, next_of, link_of}
+use Rattle.tree.specs.Links.{place}
+use Rattle.tree.proofs.Places.{place_mark, place_branch, inside_branch, inside_mark, at_branch, at_mark}
+use Rattle.tree.proofs.Leading.{link_is}
+use Rattle.tree.proofs.records.Store.next.Goals.{then-left-eq0, else-left-eq0}
 use Rattle.tree.proofs.records.Store.next.Goals as goal
 
 pub get-requires : goal.get-requires
@@ -9,9 +12,12 @@ get-requires c = inside_mark c.args.self.now _ (rw (place_mark _ _ c.if-left-eq0
 pub get-requires-else-left-eq0 : goal.get-requires-else-left-eq0
 get-requires-else-left-eq0 c = inside_branch c.args.self.now c.args.at (omega arith) (rw (place_branch _ _ c.if-left-eq0.false) at c.requires)
 
-pub returns-then-left-eq0 : goal.returns-then-left-eq0
-returns-then-left-eq0 c = rw (place_mark _ _ c.if-left-eq0.true) (sym (ap next_of (read_mark c.args.self.now _ _ c.get.ensures)))
-
-pub returns-else-left-eq0 : goal.returns-else-left-eq0
-returns-else-left-eq0 c =
-    rw (place_branch _ _ c.if-left-eq0.false) (sym (ap next_of (read_branch c.args.self.now c.args.at _ (omega arith) c.get-else-left-eq0.ensures)))
+pub returns : goal.returns
+returns c =
+    let s = c.args.self.now in
+    let is : c.if-left-eq0.next ≡ next_of (look s (place c.args.left c.args.at)) =
+    elim c.if-left-eq0.branch [
+      | then-left-eq0 w ↦ w.next-is ∙ sym (ap next_of (at_mark s _ _ _ w.if-left-eq0.true w.get.ensures))
+      | else-left-eq0 w ↦ w.next-is ∙ sym (ap next_of (at_branch s _ _ _ w.if-left-eq0.false (omega arith) w.get-else-left-eq0.ensures))
+    ] in
+    c.then_some.ensures ∙ link_is _ ∙ ap link_of is
