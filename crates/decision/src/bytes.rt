@@ -2,7 +2,7 @@
 ghost use Rattle.std.specs.Prelude.{◌≡◌, slice_index};
 ghost use Rattle.decision.specs.Bytes.{front};
 
-// The byte at a place, 0 past the end.
+// The byte at a place, 0 past the end: reading a decision refuses nothing.
 pub fn byte_at(bytes: &[u8], place: usize) -> u8
     ensures { result ≡ slice_index bytes.now place }
 {

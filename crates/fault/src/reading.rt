@@ -34,7 +34,7 @@ pub enum FileFault {
     Ends(usize),
 }
 
-// What it tells.
+// What a fault tells.
 impl From<FileFault> for Refusal {
     ghost use Rattle.routing.specs.Refusals.{told_by};
     ghost use Rattle.routing.specs.declared.refusal.Layer.TheVariants.{File as FileLayer};

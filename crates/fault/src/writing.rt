@@ -21,14 +21,14 @@ pub enum WriteFault {
     // after so many
     #[error("a row or a decision too many, or a turn or an end too early (place {0})")]
     Count(usize),
-    // the file was started for that kind
+    // the file was started for another
     #[error("the decision is of another kind than the file (place 2)")]
     Kind,
     #[error("two ends make no interval of their field (place {0})")]
     Ends(u8),
 }
 
-// What it tells.
+// What a fault tells.
 impl From<WriteFault> for Refusal {
     ghost use Rattle.routing.specs.Refusals.{told_by};
     ghost use Rattle.routing.specs.declared.refusal.Layer.TheVariants.{Writer as WriterLayer};
@@ -54,7 +54,7 @@ impl From<WriteFault> for Refusal {
     }
 }
 
-// By hand, as the two below, since a derived From has no contract.
+// By hand, as the others below, since a derived From has no contract.
 impl From<WidthsFault> for WriteFault {
     ghost use Rattle.fault.specs.Faults.{write_of};
 
@@ -77,7 +77,7 @@ pub enum RewriteFault {
     Write(WriteFault),
 }
 
-// What it tells.
+// What a fault tells.
 impl From<RewriteFault> for Refusal {
     ghost use Rattle.fault.specs.Faults.{rewrite_told};
 

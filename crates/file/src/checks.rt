@@ -130,6 +130,7 @@ impl<'a> Counted<'a> {
         requires { widths_of widths ≡ width_bytes self.now.bytes.now }
         ensures { option_map file_reason (result_err result) ≡ option_map (λ place. (9, place)) (first_some (row_place self.now.bytes.now) self.now.layout.rules) }
     {
+        // there is no slice to go over: a row is read from the bytes
         for rule in 0..self.layout.rules {
             if let Some(field) = widths.ends_fault(&self.row(rule)) {
                 let place = self.layout.row(rule) + 8 * usize::from(field) - 8;

@@ -5,7 +5,7 @@ ghost use Rattle.file.specs.Layout.{layout_of, rows_at, low_at, decisions_at, fi
 use crate::number::two_at;
 use decision::bytes::byte_at;
 
-/// What settles where the parts of a file lie: how many fields and rules it has, and the bytes of a decision.
+// What settles where the parts of a file lie: how many fields and rules it has, and the bytes of a decision.
 #[derive(Clone, Copy, Debug, PartialEq, Eq)]
 pub struct Layout {
     pub fields: u8,
@@ -33,35 +33,35 @@ impl Layout {
         }
     }
 
-    /// Where the rows begin.
+    // Where the rows begin.
     pub fn rows(self) -> usize
         ensures { result ≡ rows_at self.fields }
     {
         16 + usize::from(self.fields)
     }
 
-    /// Where the row of a rule begins. Rules count from 0.
+    // Where the row of a rule begins. Rules count from 0.
     pub fn row(self, rule: u16) -> usize
         ensures { result ≡ low_at self.fields (rule * self.fields) }
     {
         self.rows() + 8 * product(rule, u16::from(self.fields))
     }
 
-    /// Where the decisions begin.
+    // Where the decisions begin.
     pub fn decisions(self) -> usize
         ensures { result ≡ decisions_at self.fields self.rules }
     {
         self.rows() + 8 * product(u16::from(self.fields), self.rules)
     }
 
-    /// Where the decision of a rule begins. Rules count from 0.
+    // Where the decision of a rule begins. Rules count from 0.
     pub fn decision(self, rule: u16) -> usize
         ensures { result ≡ decisions_at self.fields self.rules + rule * self.size }
     {
         self.decisions() + product(rule, self.size)
     }
 
-    /// The bytes of the file.
+    // The bytes of the file.
     pub fn length(self) -> usize
         ensures { result ≡ file_length self.fields self.rules self.size }
     {

@@ -14,6 +14,7 @@ fn bytes_at<const N: usize>(bytes: &[u8], at: usize) -> [u8; N]
     array::from_fn(|k| byte_at(bytes, at + k))
 }
 
+// Numbers of two and of four bytes have no trait in common that reads them.
 pub fn two_at(bytes: &[u8], at: usize) -> u16
     requires { at < 4294967296 }
     ensures { result ≡ two bytes.now at }

@@ -1,5 +1,5 @@
 // Reading a file where the caller keeps it.
-ghost use Rattle.std.specs.Prelude.{◌≡◌, ◌<◌, ◌≤◌, Some, None, MatchOption, MatchResult};
+ghost use Rattle.std.specs.Prelude.{◌≡◌, ◌<◌, ◌≤◌, ⊤, Some, None, MatchOption, MatchResult};
 ghost use Rattle.file.specs.Layout.{file_refusal, layout_of, fields, rules, width_bytes};
 ghost use Rattle.fault.specs.Faults.{file_reason};
 
@@ -18,8 +18,11 @@ pub struct TableFile<'a, K: Kind> {
     ghost lawful: { file_refusal bytes.now K.CODE K.SIZE ≡ None },
 }
 
+// By hand, since `Clone` is not derived for a type with a ghost field.
 impl<'a, K: Kind> Clone for TableFile<'a, K> {
     ghost is_clone = { λ file copy. copy ≡ file };
+
+    ghost is_infallible = { λ _. ⊤ };
 
     fn clone(&self) -> Result<Self, AllocError> {
         Ok(*self)

@@ -49,6 +49,7 @@ fn report<K: Kind + Display>(
     let rules = file.count();
     println!(rt; "table of {kind}: {rules} rules, {} fields", file.fields())?;
     print_fields(rt, &file)?;
+    // there is no slice to go over: a rule is read from the bytes
     for rule in 0..rules {
         print!(rt; "rule {}:", rule + 1)?;
         print_rule(rt, &file, rule)?;

@@ -4,7 +4,8 @@ ghost use Rattle.routing.specs.Rules.{matches};
 
 use crate::ends::Ends;
 
-// One number for each of eight places; places past the last field hold 0.
+// One number for each of eight places; places past the last field hold 0. It is a plain array, as are the ends of a rule, since both are
+// handed over by value and no memory is taken.
 pub type Message = [u32; 8];
 
 // An interval for each field, and a decision. Pairs past the last field are not looked at.

@@ -4,7 +4,7 @@ ghost use Rattle.tree.specs.Pools.{space, Sets, Pushes};
 
 use crate::records::NONE;
 
-// The first ones are taken, so many.
+// The first ones are taken, so many: a slice that is lent does not grow, so the count stands beside it.
 #[derive(Drop)]
 pub(crate) struct Pool<'a, R> {
     pub(crate) records: &'a mut [R],

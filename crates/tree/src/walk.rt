@@ -19,6 +19,7 @@ pub struct Walk {
     path: [u32; 8],
 }
 
+// `few` and `some` stand in three contracts: a type for one to eight intervals would have one maker and be taken apart at once.
 impl Store<'_> {
     // From the node or cell at `first`, below `depth` branches of the path, on to the next cell.
     fn settle(

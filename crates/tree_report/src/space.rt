@@ -45,6 +45,7 @@ fn grow<K: Kind>(tree: &mut Tree<'_>, widths: Widths, file: TableFile<'_, K>) ->
     ensures { IfErr result (λ full. full.rules < 512) }
 {
     let count = file.count().min(512);
+    // there is no slice to go over: a rule is read from the bytes
     for rule in 0..count {
         let ends = file.row(rule);
         if widths.ends_fault(&ends).is_some() {
@@ -60,13 +61,10 @@ fn grow<K: Kind>(tree: &mut Tree<'_>, widths: Widths, file: TableFile<'_, K>) ->
 // The numbers of the rules that match a message.
 fn print_matching(rt: &impl Print, tree: &Tree<'_>, message: Message) -> io::Result<()> {
     let mut at = tree.look_up(message);
-    let mut first = true;
     while let Some(link) = at {
-        let comma = if first { "" } else { "," };
         let mark = tree.mark(link);
-        print!(rt; "{comma} {}", mark.rule)?;
-        first = false;
         at = mark.next();
+        print!(rt; " {}{}", mark.rule, if at.is_some() { "," } else { "" })?;
     }
     println!(rt)
 }
@@ -83,6 +81,7 @@ fn print_tree<K: Kind>(
         "tree: {rules} rules, {} branches, {} marks",
         used.branches, used.marks
     )?;
+    // nor is there here
     for rule in 0..rules {
         print!(rt; "low corner of rule {}: rules", rule + 1)?;
         print_matching(rt, tree, file.row(rule).map(|pair| pair.low))?;

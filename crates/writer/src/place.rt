@@ -1,4 +1,5 @@
-// Bytes put at a place of a buffer.
+// Bytes put at a place of a buffer. The buffer and the place are two parameters: a part of the buffer would do, but the contracts speak of
+// all of it.
 ghost use Rattle.std.specs.Prelude.{◌≡◌, ◌+◌, ◌*◌, ◌≤◌, ◌++◌, length};
 ghost use Rattle.std.specs.List.{flat_map};
 ghost use Rattle.writer.specs.Stages.{put, ends_bytes, head_bytes};

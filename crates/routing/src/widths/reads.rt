@@ -28,7 +28,7 @@ impl WidthsFault {
             WidthsFault::Width(field) => Refusal {
                 layer,
                 number: 8,
-                place: field as usize,
+                place: usize::from(field),
             },
         }
     }
@@ -87,7 +87,7 @@ impl Widths {
         self.number.to_le_bytes()
     }
 
-    // The width of a field, counted from 0; past the last field it is 0.
+    // The width of a field, counted from 0; past the last field it is 0, so that a message's places there can hold 0 alone.
     pub fn width(self, field: usize) -> u8
         ensures { result ≡ slice_index (widths_of self) field }
     {
