@@ -25,7 +25,7 @@ pub struct Counted<'a> {
     ghost of_header: { layout ≡ layout_of bytes.now layout.size },
 }
 
-// The header's own rules: numbers 1 to 5.
+// The header's own rules: numbers 1 to 5. A kind is told by its code here, as the file has it.
 fn check_header(bytes: &[u8], kind: u8) -> Result<(), FileFault>
     ensures { option_map file_reason (result_err result) ≡ header_refusal bytes.now kind }
 {

@@ -42,6 +42,7 @@ fn report<K: Kind + Display>(
     kind: &str,
     bytes: &[u8],
 ) -> io::Result<ExitCode> {
+    // the same in both programs: the return is this function's, and no other can make it
     let file = match TableFile::<K>::open(bytes) {
         Ok(file) => file,
         Err(fault) => return refuse(rt, "report", fault),

@@ -16,7 +16,7 @@ const MOST_BRANCHES: usize = 65536;
 
 const MOST_MARKS: usize = 1048576;
 
-// Its records, the link to its root, and how many fields its rules have.
+// Its records, the link to its root (a number, as the records have their links), and how many fields its rules have.
 #[derive(Drop)]
 pub struct Tree<'a> {
     pub(crate) store: Store<'a>,

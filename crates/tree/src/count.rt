@@ -17,7 +17,7 @@ fn past(ends: Ends) -> u64
 }
 
 impl Store<'_> {
-    // What the marks of the cell at `first` take.
+    // What the marks of the cell at `first` take. A loop of its own: nothing is below a mark.
     fn space_of_cell(&self, first: u32) -> Space
         requires { SomeTree self.now 0 first }
         ensures { (t : Records) → Stood self.now 0 first t → Weighs result (λ p q. weight p q (shape t)) }

@@ -15,6 +15,7 @@ use std::process::ExitCode;
 
 // The whole task for a kind of decision.
 fn report<K: Kind>(rt: &(impl AllocGlobal + Print + Eprint), bytes: &[u8]) -> io::Result<ExitCode> {
+    // the same in both programs: the return is this function's, and no other can make it
     let file = match TableFile::<K>::open(bytes) {
         Ok(file) => file,
         Err(fault) => return refuse(rt, "tree_report", fault),

@@ -34,7 +34,7 @@ pub fn put_row(out: &mut [u8], at: usize, row: &[Ends])
     }
 }
 
-// The header of a file with decisions of the kind with a code.
+// The header of a file with decisions of the kind with a code, which is a number here as it is in the file.
 fn head(layout: Layout, code: u8) -> [u8; 16]
     ensures { result ≡ head_bytes layout.fields layout.rules code }
 {

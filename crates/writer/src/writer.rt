@@ -100,7 +100,7 @@ impl<P> Stage<P> {
 }
 
 impl RowStage {
-    // What a start would refuse with a buffer of so many bytes. Nothing is written.
+    // What a start would refuse with a buffer of so many bytes: a question, so an option of the fault. Nothing is written.
     pub fn start_fault<K: Kind>(widths: &[u8], rules: usize, room: usize) -> Option<WriteFault>
         ensures { option_map write_reason result ≡ start_refusal widths.now rules K.SIZE room }
     {

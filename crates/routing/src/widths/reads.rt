@@ -15,7 +15,7 @@ use crate::rule::Message;
 const PLACES: usize = 8;
 
 impl WidthsFault {
-    // What it tells, where this layer refuses.
+    // What it tells, where this layer refuses: a method and no `From`, since it takes the layer.
     pub fn refusal(self, layer: Layer) -> Refusal
         ensures { result ≡ told_by layer (widths_reason self) }
     {
