@@ -15,7 +15,8 @@ use routing::widths::Widths;
 use std::marker::PhantomData;
 
 impl Plan {
-    // What a start tests, for a buffer of a length.
+    // What a start tests, for a buffer of a length. Widths, rules and room stay three parameters: a type for them would be made for this
+    // call alone.
     pub(crate) fn test<K: Kind>(
         widths: &[u8],
         rules: usize,
