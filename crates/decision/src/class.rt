@@ -3,7 +3,7 @@ ghost use Rattle.std.specs.Prelude.{◌≡◌, ◌≤◌};
 
 use std::fmt;
 
-// A class that has no name here, by its code, which is never that of a named one.
+// A class that has no name here, by its code, which is all that is known of it and never that of a named one.
 #[derive(Clone, Copy, Debug, PartialEq, Eq, Hash)]
 pub struct UnnamedClass {
     code: u8,

@@ -2,11 +2,11 @@
 use routing::ends::Ends;
 use routing::refusal::Refusal;
 
-const NONE: Ends = Ends { low: 0, high: 0 };
-
 // A row of one field.
 pub fn one_field(low: u32, high: u32) -> [Ends; 8] {
-    [Ends { low, high }, NONE, NONE, NONE, NONE, NONE, NONE, NONE]
+    let mut row = [Ends { low: 0, high: 0 }; 8];
+    row[0] = Ends { low, high };
+    row
 }
 
 // The number and the place of a refusal.

@@ -24,7 +24,7 @@ fn step_told<P, E: Into<WriteFault>>(answer: Result<Stage<P>, E>) -> Option<(u8,
     }
 }
 
-// The same of what answers a length.
+// The same of what answers a length, which is not given up.
 fn length_told<E: Into<WriteFault>>(answer: Result<usize, E>) -> Option<(u8, usize)> {
     match answer {
         Ok(_) => None,

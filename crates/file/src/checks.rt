@@ -141,7 +141,7 @@ impl<'a> Counted<'a> {
     }
 }
 
-// Every rule that a file for decisions of a kind and a size keeps, or the first that it breaks.
+// Every rule that a file for decisions of a kind, told by its code, and a size keeps, or the first that it breaks.
 #[tactic(auto, unfolding(crate::specs::Layout::file_refusal))]
 pub fn check(bytes: &[u8], kind: u8, size: u16) -> Result<(), FileFault>
     ensures { option_map file_reason (result_err result) ≡ file_refusal bytes.now kind size }

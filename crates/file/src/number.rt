@@ -6,7 +6,7 @@ ghost use Rattle.file.specs.Layout.{two, four, part};
 use decision::bytes::byte_at;
 use std::array;
 
-// The bytes at a place, and 0 past the end.
+// The bytes at a place, and 0 past the end, so that a number is read before it is known whether the file reaches so far.
 fn bytes_at<const N: usize>(bytes: &[u8], at: usize) -> [u8; N]
     requires { at + N < 2 ^ 64 }
     ensures { result ≡ map (λ k. slice_index bytes.now (at + k)) (range_with_len 0 N) }

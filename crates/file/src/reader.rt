@@ -18,7 +18,7 @@ pub struct TableFile<'a, K: Kind> {
     ghost lawful: { file_refusal bytes.now K.CODE K.SIZE ≡ None },
 }
 
-// By hand, since `Clone` is not derived for a type with a ghost field.
+// By hand: a derive is refused where a ghost field speaks of a parameter's members.
 impl<'a, K: Kind> Clone for TableFile<'a, K> {
     ghost is_clone = { λ file copy. copy ≡ file };
 

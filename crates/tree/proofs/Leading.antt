@@ -1,6 +1,5 @@
 -- Links as options, and walks that have found a cell. Assumes nothing.
-use Rattle.std.proofs.Common.{◌≡◌, ℕ, ◌≤◌, true, false, cond, not, eqb, List, [], ◌∷◌, Some, None, IfSome, sym, refl, ap, ◌∙◌, subst, ⊎_elim, arith}
-use Rattle.std.specs.Bool.{then_some}
+use Rattle.std.proofs.Common.{◌≡◌, ℕ, ◌≤◌, true, false, cond, List, [], ◌∷◌, Some, None, IfSome, sym, ap, ◌∙◌, subst, ⊎_elim, arith}
 use Rattle.std.proofs.lemmas.Bool.Decides.{eqb_tells}
 use Rattle.shape.specs.Meaning.{Cell, marks_in}
 use Rattle.tree.specs.Memory.{link_of, in_use}
@@ -12,10 +11,6 @@ use Rattle.tree.specs.declared.records.Store.{Store}
 use Rattle.tree.specs.declared.walk.Walk.{Walk}
 use Rattle.routing.specs.declared.ends.Ends.{Ends}
 use Rattle.tree.proofs.Frames.{empty}
-
--- a link that was tested is an option
-pub link_is : (n : ℕ) → then_some (not (eqb n 0xffff_ffff)) n ≡ link_of n
-link_is n = elim (eqb n 0xffff_ffff) as (λ b. then_some (not b) n ≡ cond b None (Some n)) [ true ↦ refl | false ↦ refl ]
 
 -- an option that leads on has the link itself
 pub link_on : (n m : ℕ) → Some m ≡ link_of n → (m ≡ n) × (m ≡ 0xffff_ffff → ⊥)

@@ -3,7 +3,7 @@ ghost use Rattle.std.specs.Prelude.{◌≡◌, ◌≤◌, length, take};
 ghost use Rattle.tree.specs.Meant.{SomeRules};
 
 use crate::pool::Pool;
-use crate::records::{Branch, Mark, NONE, Store};
+use crate::records::{Branch, Mark, NONE, Store, leads};
 use crate::space::Space;
 use crate::walk::Walk;
 use routing::ends::Ends;
@@ -130,7 +130,7 @@ impl<'a> Tree<'a> {
         ensures { LooksUp self.now message result }
     {
         let at = self.store.cell(self.fields, self.root, message);
-        (at != NONE).then_some(at)
+        leads(at)
     }
 
     // The mark at a link.

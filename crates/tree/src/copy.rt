@@ -4,8 +4,9 @@ ghost use Rattle.shape.specs.Shapes.{Label};
 ghost use Rattle.tree.specs.Memory.{look, live, link_of, next_of, with_next, Written};
 ghost use Rattle.tree.specs.Links.{Records, item, place, Copiable, Copied, CopiedOne};
 
-use crate::records::{Branch, Mark, NONE, Store};
+use crate::records::{Branch, Mark, NONE, Store, leads};
 
+// Where no field is left the recursion ends: that is what `left == 0` says, here and where a rule is appended or space is counted.
 impl Store<'_> {
     // A copy, in new records, of the node or cell that starts at `first`, with `left` fields left. The two stay two parameters, here and in
     // all that goes down the tree: each call passes another pair, `left - 1` and the link below, so a struct would be built and taken apart.
@@ -14,6 +15,7 @@ impl Store<'_> {
         requires { (t : Records) × Copiable self.old left first t }
         ensures { (t : Records) → Copiable self.old left first t → (u : Records) × Copied self.old self.new left t result u }
     {
+        // a link as it lies in its record, answered as it is
         if first == NONE {
             return NONE;
         }
@@ -61,7 +63,7 @@ impl Store<'_> {
         } else {
             self.branches.get(at).next
         };
-        (next != NONE).then_some(next)
+        leads(next)
     }
 
     // Makes `next` follow the record at `at`.

@@ -9,7 +9,7 @@ ghost use Rattle.tree.specs.declared.records.Store.{Store as AnyStore};
 use crate::records::{Branch, Mark, NONE, Store};
 use routing::ends::Ends;
 
-// `branches` and `upward` stand in several contracts: a type for a node with a field left, or for ends that run upward, would have one
+// `branches` and `upward` stand in several contracts, here and where space is counted: a type for a node with a field left, or for ends that run upward, would have one
 // maker and be taken apart at each call.
 impl Store<'_> {
     // Cuts the branch that has `x` strictly inside, of the node that starts at `first`, in two below `x`.

@@ -2,6 +2,7 @@
 ghost use Rattle.std.specs.Prelude.{◌≡◌};
 ghost use Rattle.shape.specs.Shapes.{piece};
 ghost use Rattle.shape.specs.Meaning.{within};
+ghost use Rattle.tree.specs.Memory.{link_of};
 
 use crate::pool::Pool;
 use routing::ends::Ends;
@@ -47,14 +48,19 @@ pub struct Mark {
 pub const NONE: u32 = 0xffff_ffff;
 
 impl Mark {
-    ghost use Rattle.tree.specs.Memory.{link_of};
-
     // The link to the next mark, if there is one.
     pub fn next(self) -> Option<u32>
         ensures { result ≡ link_of self.next }
     {
-        (self.next != NONE).then_some(self.next)
+        leads(self.next)
     }
+}
+
+// Where a link leads, if anywhere.
+pub(crate) fn leads(link: u32) -> Option<u32>
+    ensures { result ≡ link_of link }
+{
+    (link != NONE).then_some(link)
 }
 
 // The branches and the marks of a tree, in two slices that the caller lends.

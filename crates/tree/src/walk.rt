@@ -10,6 +10,7 @@ use routing::ends::Ends;
 use routing::rule::Message;
 
 // Where a walk stands: whether there is a cell, its low corner as a message, its first mark, and the branches above it.
+// Its links are numbers as the records have them, and `NONE` where there is none.
 // `found` is a flag beside the arrays and never an option around them: so it is in each answer of a walk.
 #[derive(Clone, Copy)]
 pub struct Walk {

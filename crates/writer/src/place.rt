@@ -1,5 +1,5 @@
 // Bytes put at a place of a buffer. The buffer and the place are two parameters: a part of the buffer would do, but the contracts speak of
-// all of it.
+// all of it; and so is the room that each of them asks for.
 ghost use Rattle.std.specs.Prelude.{◌≡◌, ◌+◌, ◌*◌, ◌≤◌, ◌++◌, length};
 ghost use Rattle.std.specs.List.{flat_map};
 ghost use Rattle.writer.specs.Stages.{put, ends_bytes, head_bytes};
@@ -61,7 +61,7 @@ fn head(layout: Layout, code: u8) -> [u8; 16]
     ]
 }
 
-// The header and the widths.
+// The header, with the code of a kind as in `head`, and the widths.
 pub fn put_front(out: &mut [u8], widths: &[u8], layout: Layout, code: u8)
     requires { 16 + length widths.now ≤ length out.old }
     ensures { out.new ≡ put 0 (head_bytes layout.fields layout.rules code ++ widths.now) out.old }

@@ -77,6 +77,8 @@ impl Plan {
     }
 }
 
+// A step hands its stage back in a `return` of its own, four times: a closure for `map_err` would take the stage also where the step goes
+// on.
 impl<P> Stage<P> {
     // What each step into the file tests first: room for the whole file, and a rule to come.
     fn ready(&self, room: usize) -> Result<(), WriteFault>

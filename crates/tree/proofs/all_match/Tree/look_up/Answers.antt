@@ -8,7 +8,7 @@ use Rattle.tree.specs.Lookups.{look_up}
 use Rattle.tree.specs.Calls.{Leads, Marked}
 use Rattle.tree.proofs.Recovers.{recovered, stood, few_fields, some_tree}
 use Rattle.tree.proofs.Finding.{looked}
-use Rattle.tree.proofs.Leading.{link_is, leads, marked}
+use Rattle.tree.proofs.Leading.{leads, marked}
 use Rattle.shape.proofs.Finds.{look_up_right}
 use Rattle.tree.proofs.all_match.Tree.look_up.Goals as goal
 
@@ -19,7 +19,7 @@ pub returns : goal.returns
 returns c =
     let x = c.args.self.now in
     let at = c.cell-at.result in
-    let is : c.then_some.result ≡ link_of at = c.then_some.ensures ∙ link_is at in
+    let is : c.leads.result ≡ link_of at = c.leads.ensures in
     record {
       marks =
           λ T e.

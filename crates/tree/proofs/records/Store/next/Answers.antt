@@ -2,7 +2,6 @@ use Rattle.std.proofs.Common.{◌≡◌, sym, ap, ◌∙◌, arith}
 use Rattle.tree.specs.Memory.{look, next_of, link_of}
 use Rattle.tree.specs.Links.{place}
 use Rattle.tree.proofs.Places.{place_mark, place_branch, inside_branch, inside_mark, at_branch, at_mark}
-use Rattle.tree.proofs.Leading.{link_is}
 use Rattle.tree.proofs.records.Store.next.Goals.{then-left-eq0, else-left-eq0}
 use Rattle.tree.proofs.records.Store.next.Goals as goal
 
@@ -20,4 +19,4 @@ returns c =
       | then-left-eq0 w ↦ w.next-is ∙ sym (ap next_of (at_mark s _ _ _ w.if-left-eq0.true w.get.ensures))
       | else-left-eq0 w ↦ w.next-is ∙ sym (ap next_of (at_branch s _ _ _ w.if-left-eq0.false (omega arith) w.get-else-left-eq0.ensures))
     ] in
-    c.then_some.ensures ∙ link_is _ ∙ ap link_of is
+    c.leads.ensures ∙ ap link_of is
