@@ -1,32 +1,10 @@
 -- Parts of a file. Assumes nothing.
-use Rattle.std.proofs.Common.{◌≡◌, ℕ, zero, suc, ◌+◌, ◌-◌, ◌<◌, ◌≤◌, min, List, [], ◌∷◌, ◌++◌, map, length, get_or, take, drop, Some, None, sym, refl, ap, ◌∙◌, ⊎_elim, arith, take-add}
+use Rattle.std.proofs.Common.{◌≡◌, ℕ, zero, suc, ◌+◌, ◌<◌, ◌≤◌, List, [], ◌∷◌, ◌++◌, map, length, get_or, take, drop, Some, None, refl, ap, ◌∙◌, arith, take-add}
 use Rattle.std.specs.List.{range_with_len, slice_get}
 use Rattle.std.proofs.lemmas.List.FromFn.{length-map-range_with_len, get_or-map-range_with_len, fill_by_all}
 use Rattle.std.proofs.lemmas.Option.{slice_get-get_or, slice_get_past}
-use Rattle.std.proofs.lemmas.List.{take_all, drop_all, length-drop, drop-drop, length-take-le, take_at, drop_at}
-use Rattle.std.proofs.lemmas.Bool.{cases_lt}
+use Rattle.std.proofs.lemmas.List.{length-drop, drop-drop, length-take-le, take_at, drop_at}
 use Rattle.file.specs.Layout.{part}
-
-take_none : (n : ℕ) → take {A = ℕ} n [] ≡ []
-take_none n = take_all n [] (omega arith)
-
--- a slice whose bounds stop at the end
-pub part_bounded : (bs : List ℕ) (at n from to : ℕ) → from ≡ min at (length bs) → to ≡ min (at + n) (length bs)
-    → take (to - from) (drop from bs) ≡ part at n bs
-part_bounded bs at n from to f t =
-    ⊎_elim
-    (λ (h : at < length bs).
-    let p : from ≡ at = omega arith in
-    ⊎_elim
-    (λ (i : at + n < length bs). let q : to - from ≡ n = omega arith in rw (q, p))
-    (λ (i : length bs ≤ at + n).
-    rw p (take_all _ (drop at bs) (omega (arith, length-drop at bs)) ∙ sym (take_all n (drop at bs) (omega (arith, length-drop at bs)))))
-    (cases_lt (at + n) (length bs)))
-    (λ (h : length bs ≤ at).
-    let p : drop from bs ≡ [] = drop_all from bs (omega arith) in
-    let q : drop at bs ≡ [] = drop_all at bs h in
-    rw (p, q) (take_none (to - from) ∙ sym (take_none n)))
-    (cases_lt at (length bs))
 
 module _ {X : Type 0} (f : ℕ → X) (n r : ℕ) where
   -- an item of a list that is made by counting, and none past its end

@@ -17,10 +17,6 @@ broken_none false p e = refl
 broken_none true p e = let z : ◌≡◌ {A = ℕ} 0 1 = cc in absurd (omega arith)
 
 module _ (f : ℕ → Option ℕ) where
-  -- one more that gives none
-  pub some_more : (k : ℕ) → first_some f k ≡ None → f k ≡ None → first_some f (k + 1) ≡ None
-  some_more k e h = rw (add-one, e, h)
-
   some_here : (k p : ℕ) → first_some f k ≡ None → f k ≡ Some p → first_some f (suc k) ≡ Some p
   some_here k p e h = rw (e, h)
 

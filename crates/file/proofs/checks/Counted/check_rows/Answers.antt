@@ -1,7 +1,7 @@
 use Rattle.std.proofs.Common.{◌≡◌, ◌+◌, ◌-◌, ◌*◌, Some, sym, ap, ◌∙◌, arith}
 use Rattle.std.specs.Option.{option_map}
 use Rattle.routing.specs.Firsts.{first_some}
-use Rattle.routing.proofs.First.{some_more, some_hit}
+use Rattle.routing.proofs.First.{some_hit}
 use Rattle.file.specs.declared.layout.Layout.{Layout}
 use Rattle.file.specs.Layout.{row_place, low_at}
 use Rattle.file.proofs.Refused.{row_placed}
@@ -16,13 +16,6 @@ returns-in-Some c =
     let place : c.row-in-Some.result + 8 * c.from.result - 8 ≡ low_at d (r * d + c.in-Some.field) - 8 = omega arith in
     ap (λ n. Some (9, n)) place
     ∙ sym (ap (option_map (λ n. (9, n))) (some_hit (row_place bs) c.args.self.now.layout.rules r _ c.loop-rule-test.true c.loop-rule.invariant here))
-
-pub loop-rule-preserved : goal.loop-rule-preserved
-loop-rule-preserved c =
-    let bs = c.args.self.now.bytes.now in
-    let r = c.loop-rule.rule in
-    let here = row_placed bs c.args.self.now.layout.fields r _ _ _ (ap (λ (l : Layout). l.fields) c.args.self.now.of_header) c.requires c.row.ensures c.in_default.ensures in
-    some_more (row_place bs) r c.loop-rule.invariant here
 
 pub returns : goal.returns
 returns c =

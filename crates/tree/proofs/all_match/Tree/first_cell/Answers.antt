@@ -9,9 +9,6 @@ use Rattle.tree.proofs.Leading.{standing}
 use Rattle.shape.proofs.Walks.{cells_right}
 use Rattle.tree.proofs.all_match.Tree.first_cell.Goals as goal
 
-pub first_of-requires : goal.first_of-requires
-first_of-requires c = (few_fields c.args.self.now.rules).1
-
 pub first_cell-requires : goal.first_cell-requires
 first_cell-requires c =
     let x = c.args.self.now in

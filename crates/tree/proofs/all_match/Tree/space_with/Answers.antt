@@ -1,12 +1,9 @@
 use Rattle.std.proofs.Common.{◌+◌, length, sym, refl, subst}
 use Rattle.std.specs.List.{AllByRecursion}
 use Rattle.shape.specs.Meaning.{Upward}
-use Rattle.tree.proofs.Recovers.{recovered, stood, few_fields, some_tree}
+use Rattle.tree.proofs.Recovers.{recovered, stood, some_tree}
 use Rattle.tree.proofs.Meanings.{upward, need_is}
 use Rattle.tree.proofs.all_match.Tree.space_with.Goals as goal
-
-pub first_of-requires : goal.first_of-requires
-first_of-requires c = (few_fields c.args.self.now.rules).1
 
 pub space_with-requires : goal.space_with-requires
 space_with-requires c =

@@ -4,12 +4,6 @@ use Rattle.tree.specs.Links.{shape, Fits, Became}
 use Rattle.tree.proofs.Descends.{above_is}
 use Rattle.tree.proofs.records.Store.cut_above.Goals as goal
 
-pub cut-requires-clause-room : goal.cut-requires-clause-room
-cut-requires-clause-room c =
-    let (t, K) = c.requires.room in
-    let e : cut_above c.args.high (shape t) ≡ cut_at c.in-Some.above (shape t) = above_is c.args.high (shape t) (λ z. omega arith) ∙ ap (λ x. cut_at x (shape t)) (sym c.in-Some.ensures.1) in
-    (t, subst (Fits _ _ _ t) e K)
-
 pub returns-in-Some : goal.returns-in-Some
 returns-in-Some c t K =
     let e : cut_above c.args.high (shape t) ≡ cut_at c.in-Some.above (shape t) = above_is c.args.high (shape t) (λ z. omega arith) ∙ ap (λ x. cut_at x (shape t)) (sym c.in-Some.ensures.1) in

@@ -7,8 +7,5 @@ get-at-requires c = leave_there c.requires.walk.1.1.4 c.requires.some
 pub settle-requires-clause-walk : goal.settle-requires-clause-walk
 settle-requires-clause-walk c = (c.requires.walk.1.0, leave c.requires.walk.1.1.4 c.requires.some c.get-at.ensures)
 
-pub settle-requires-clause-clear : goal.settle-requires-clause-clear
-settle-requires-clause-clear c = c.requires.walk.1.1.2
-
 pub returns : goal.returns
 returns c x cs R = c.settle.ensures cs (leave R.4 c.requires.some c.get-at.ensures)

@@ -1,10 +1,6 @@
-use Rattle.std.proofs.Common.{length, sym, ap, arith, length-set}
-use Rattle.tree.specs.declared.records.Branch.{Branch}
+use Rattle.std.proofs.Common.{sym, arith}
 use Rattle.tree.proofs.Places.{read_branch, pushed_branch, wrote_branch}
 use Rattle.tree.proofs.records.Store.put_after.Goals as goal
-
-pub set-requires : goal.set-requires
-set-requires c = omega (arith, c.requires.inside, ap length c.push-new.ensures.records, length-set {A = Branch})
 
 pub returns : goal.returns
 returns c =
