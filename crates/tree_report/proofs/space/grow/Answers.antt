@@ -1,12 +1,9 @@
-use Rattle.std.proofs.Common.{◌≡◌, [], length, refl, rules}
+use Rattle.std.proofs.Common.{◌≡◌, length, rules}
 use Rattle.std.proofs.lemmas.Grind.{common_steps}
 use Rattle.std.proofs.Common.{arith}
 use Rattle.routing.specs.Fields.{widths_of}
 use Rattle.tree.proofs.Lawfuls.{lawful_proper}
 use Rattle.tree_report.proofs.space.grow.Goals as goal
-
-pub loop-rule-init : goal.loop-rule-init
-loop-rule-init g c = record { next = ∣ ([], c.requires.empty, refl) ∣₁; fields = c.requires.fields }
 
 pub append-requires-clause-proper : goal.append-requires-clause-proper
 append-requires-clause-proper g c =
