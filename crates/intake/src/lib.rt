@@ -1,31 +1,35 @@
 // What the programs share: a file from a reader, its kind of decision, and the line of a refusal.
 #![tactic(auto)]
 
-ghost use Rattle.std.specs.Prelude.{◌≡◌, ◌≤◌, length, take, IfOk, IfSome};
+ghost use Rattle.std.specs.Prelude.{◌≡◌, ◌≤◌, take, IfOk, IfSome};
 ghost use Rattle.std.specs.Process.{exit_status};
 
 use decision::bytes::byte_at;
 use decision::handling::Handling;
 use decision::kind::Kind;
 use routing::refusal::Refusal;
-use std::alloc::Global;
 use std::fmt::Display;
 use std::io;
 use std::io::Read;
 use std::process::ExitCode;
 
 // No lawful file is longer than 35,864 bytes.
-pub const MOST: u64 = 40960;
+pub const MOST: usize = 40960;
 
-// The first bytes of a reader, as many as are looked at.
-pub fn read_front<R: Read + Drop>(alloc: Global, from: R) -> io::Result<Vec<u8>>
-    ensures most { IfOk result (λ bytes. length bytes.items ≤ MOST) }
-    ensures front { IfSome (R.remaining from) (λ all. IfOk result (λ bytes. bytes.items ≡ take MOST all)) }
+// The first bytes of a reader, in a buffer that the caller lends, and how many they are. Each read has all of the room that is left.
+pub fn read_front<R: Read + Drop>(mut from: R, room: &mut [u8; MOST]) -> io::Result<usize>
+    ensures most { IfOk result (λ n. n ≤ MOST) }
+    ensures front { IfSome (R.remaining from) (λ all. IfOk result (λ n. take n room.new ≡ take MOST all)) }
 {
-    let mut bytes = Vec::new(alloc);
-    from.take(MOST).read_to_end(&mut bytes)?;
-    bytes.truncate(MOST as usize); // where a reader does not say what it has left, this line alone bounds what came
-    Ok(bytes)
+    let mut filled = 0;
+    while filled < MOST {
+        let n = from.read(&mut room[filled..])?;
+        if n == 0 {
+            return Ok(filled);
+        }
+        filled += n;
+    }
+    Ok(filled)
 }
 
 // The kind of decision that a file says, lawful or not.

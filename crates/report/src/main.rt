@@ -6,7 +6,7 @@ use decision::kind::Kind;
 use decision::queue::Queue;
 use file::reader::TableFile;
 use file::rules::Rules;
-use intake::{FileKind, read_front, refuse};
+use intake::{FileKind, MOST, read_front, refuse};
 use std::fmt::Display;
 use std::io;
 use std::process::ExitCode;
@@ -38,7 +38,7 @@ fn print_rule<K: Kind + Display>(
 
 // The whole task for a kind of decision.
 fn report<K: Kind + Display>(
-    rt: &(impl AllocGlobal + Print + Eprint),
+    rt: &(impl Print + Eprint),
     kind: &str,
     bytes: &[u8],
 ) -> io::Result<ExitCode> {
@@ -55,7 +55,7 @@ fn report<K: Kind + Display>(
         print!(rt; "rule {}:", rule + 1)?;
         print_rule(rt, &file, rule)?;
     }
-    let mut again = vec![in rt.alloc(); 0u8; bytes.len()]?;
+    let mut again = [0u8; MOST];
     match rewrite::<K>(bytes, &mut again) {
         Ok(length) => {
             let verdict = if &again[..length] == bytes {
@@ -72,9 +72,11 @@ fn report<K: Kind + Display>(
 
 // A refused file ends the program with status 1; what it says of it is printed by then.
 fn main(rt: HostRuntime) -> io::Result<ExitCode> {
-    let bytes = read_front(rt.alloc(), rt.stdin())?;
-    match FileKind::from(bytes.as_slice()) {
-        FileKind::Queues => report::<Queue>(&rt, "queues", &bytes),
-        FileKind::Handlings => report::<Handling>(&rt, "handlings", &bytes),
+    let mut room = [0u8; MOST];
+    let length = read_front(rt.stdin(), &mut room)?;
+    let bytes = &room[..length];
+    match FileKind::from(bytes) {
+        FileKind::Queues => report::<Queue>(&rt, "queues", bytes),
+        FileKind::Handlings => report::<Handling>(&rt, "handlings", bytes),
     }
 }

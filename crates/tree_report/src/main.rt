@@ -7,7 +7,7 @@ use decision::handling::Handling;
 use decision::kind::Kind;
 use decision::queue::Queue;
 use file::reader::TableFile;
-use intake::{FileKind, read_front, refuse};
+use intake::{FileKind, MOST, read_front, refuse};
 use routing::widths::Widths;
 use space::print_space;
 use std::io;
@@ -28,9 +28,11 @@ fn report<K: Kind>(rt: &(impl AllocGlobal + Print + Eprint), bytes: &[u8]) -> io
 
 // A refused file ends the program with status 1; what it says of it is printed by then.
 fn main(rt: HostRuntime) -> io::Result<ExitCode> {
-    let bytes = read_front(rt.alloc(), rt.stdin())?;
-    match FileKind::from(bytes.as_slice()) {
-        FileKind::Queues => report::<Queue>(&rt, &bytes),
-        FileKind::Handlings => report::<Handling>(&rt, &bytes),
+    let mut room = [0u8; MOST];
+    let length = read_front(rt.stdin(), &mut room)?;
+    let bytes = &room[..length];
+    match FileKind::from(bytes) {
+        FileKind::Queues => report::<Queue>(&rt, bytes),
+        FileKind::Handlings => report::<Handling>(&rt, bytes),
     }
 }
