@@ -61,10 +61,12 @@ fn grow<K: Kind>(tree: &mut Tree<'_>, widths: Widths, file: TableFile<'_, K>) ->
 // The numbers of the rules that match a message.
 fn print_matching(rt: &impl Print, tree: &Tree<'_>, message: Message) -> io::Result<()> {
     let mut at = tree.look_up(message);
+    let mut before = " ";
     while let Some(link) = at {
         let mark = tree.mark(link);
+        print!(rt; "{before}{}", mark.rule)?;
+        before = ", ";
         at = mark.next();
-        print!(rt; " {}{}", mark.rule, if at.is_some() { "," } else { "" })?;
     }
     println!(rt)
 }
