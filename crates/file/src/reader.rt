@@ -1,6 +1,7 @@
 // Reading a file where the caller keeps it.
 ghost use Rattle.std.specs.Prelude.{◌≡◌, ◌<◌, ◌≤◌, ⊤, Some, None, MatchOption, MatchResult};
 ghost use Rattle.file.specs.Layout.{file_refusal, layout_of, fields, rules, width_bytes};
+ghost use Rattle.file.specs.Lawful.{Lawful};
 ghost use Rattle.fault.specs.Faults.{file_reason};
 
 use crate::checks::check;
@@ -11,15 +12,16 @@ use fault::reading::FileFault;
 use std::alloc::AllocError;
 use std::marker::PhantomData;
 
-// A lawful file of decisions of the kind K, which `open` alone makes.
-pub struct TableFile<'a, K: Kind> {
+// A lawful file of decisions of the kind K, which `open` alone makes. That it is one of this kind is for `open` to say: a field that spoke of
+// the kind would ask for a bound on K wherever the type is named.
+pub struct TableFile<'a, K> {
     pub(crate) bytes: &'a [u8],
     kind: PhantomData<K>,
-    ghost lawful: { file_refusal bytes.now K.CODE K.SIZE ≡ None },
+    ghost lawful: { Lawful bytes.now },
 }
 
-// By hand: a derive is refused where a ghost field speaks of a parameter's members.
-impl<'a, K: Kind> Clone for TableFile<'a, K> {
+// By hand: a derive would ask it of K.
+impl<'a, K> Clone for TableFile<'a, K> {
     ghost is_clone = { λ file copy. copy ≡ file };
 
     ghost is_infallible = { λ _. ⊤ };
@@ -29,7 +31,7 @@ impl<'a, K: Kind> Clone for TableFile<'a, K> {
     }
 }
 
-impl<'a, K: Kind> Copy for TableFile<'a, K> {}
+impl<'a, K> Copy for TableFile<'a, K> {}
 
 impl<'a, K: Kind> TableFile<'a, K> {
     // The file, or the first rule that it breaks.

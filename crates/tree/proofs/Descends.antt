@@ -1,5 +1,5 @@
 -- The rest of a rule, below the branches of a node. Assumes nothing.
-use Rattle.std.proofs.Common.{◌≡◌, ℕ, ◌+◌, ◌-◌, ◌<◌, true, false, ◌&&◌, leb, List, [], ◌∷◌, length, get_or, take, drop, sym, refl, ap, ◌∙◌, subst, arith}
+use Rattle.std.proofs.Common.{◌≡◌, ℕ, ◌+◌, ◌-◌, ◌<◌, Bool, true, false, cond, ◌&&◌, eqb, leb, Some, None, List, [], ◌∷◌, length, get_or, take, drop, sym, refl, ap, ◌∙◌, subst, arith}
 use Rattle.std.proofs.lemmas.Bool.{cond-true, cond-false, cond_both, ne_eqb}
 use Rattle.std.proofs.lemmas.List.{take_rest}
 use Rattle.std.specs.List.{AllByRecursion}
@@ -145,6 +145,15 @@ after s s' d first r t t' sh sh' K B =
       room = omega (arith, K.room, C.branches, C.all);
       room_marks = omega (arith, K.room_marks, C.marks, C.all_marks);
     }
+
+-- the cut is where one above says
+pub above_some : (high a : ℕ) (sh : Shape) → Some a ≡ cond (eqb high 0xffff_ffff) None (Some (high + 1)) → cut_above high sh ≡ cut_at a sh
+above_some high a sh e = by (eqb high 0xffff_ffff) e
+  where
+    -- by whether it is the last number
+    by : (t : Bool) → Some a ≡ cond t None (Some (high + 1)) → cond t sh (cut_at (high + 1) sh) ≡ cut_at a sh
+    by true e = let z : ◌≡◌ {A = ℕ} 0 1 = cc in absurd (let n : ⊥ = omega arith in n)
+    by false e = let q : high + 1 ≡ a = cc in ap (λ x. cut_at x sh) q
 
 -- below the last number a cut above is a cut
 pub above_is : (high : ℕ) (sh : Shape) → (high ≡ 0xffff_ffff → ⊥) → cut_above high sh ≡ cut_at (high + 1) sh

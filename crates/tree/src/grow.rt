@@ -1,5 +1,5 @@
 // Appending a rule to the records of a tree.
-ghost use Rattle.std.specs.Prelude.{◌≡◌, ℕ, ◌-◌, ◌<◌, length};
+ghost use Rattle.std.specs.Prelude.{◌≡◌, ℕ, ◌+◌, ◌-◌, ◌<◌, length, if◌then◌else◌, Some, None, nat_eq};
 ghost use Rattle.shape.specs.Shapes.{cut_at, add_mark, under, cut_above, gaps, ready, insert};
 ghost use Rattle.shape.specs.Meaning.{Upward};
 ghost use Rattle.tree.specs.Links.{Records, shape, root, Stands, Can, Does, CanNode, DoesNode, tail, Gap, Inserted, Intervals};
@@ -8,6 +8,13 @@ ghost use Rattle.tree.specs.declared.records.Store.{Store as AnyStore};
 
 use crate::records::{Branch, Mark, NONE, Store};
 use routing::ends::Ends;
+
+// One above the last number there is none, so that no cut wraps to 0.
+fn one_above(high: u32) -> Option<u32>
+    ensures { result ≡ (if nat_eq high 0xffff_ffff then None else Some (high + 1)) }
+{
+    high.checked_add(1)
+}
 
 // `branches` and `upward` stand in several contracts, here and where space is counted: a type for a node with a field left, or for ends that run upward, would have one
 // maker and be taken apart at each call.
@@ -71,7 +78,7 @@ impl Store<'_> {
         ensures { Does self.old self.new left first first (cut_above high) }
     {
         // above the last number there is nothing to cut
-        if let Some(above) = high.checked_add(1) {
+        if let Some(above) = one_above(high) {
             self.cut(left, first, above);
         }
     }

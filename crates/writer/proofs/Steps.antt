@@ -1,5 +1,6 @@
 -- Steps that are granted. Assumes nothing.
-use Rattle.std.proofs.Common.{◌≡◌, ℕ, ◌+◌, ◌*◌, ◌<◌, ◌≤◌, List, length, None, Option, Result, Ok, Err, ap, ◌∙◌}
+use Rattle.std.proofs.Common.{◌≡◌, ℕ, ◌+◌, ◌*◌, ◌<◌, ◌≤◌, List, length, None, Option, Result, Ok, Err, MatchResult, ap, ◌∙◌, sym, subst}
+use Rattle.std.specs.Bool.{⊤}
 use Rattle.std.proofs.lemmas.Bool.{le-ltb, lt-leb, eq-eqb, ltb-false, leb-false, eqb-true, not-false, or_parts}
 use Rattle.routing.specs.declared.ends.Ends.{Ends}
 use Rattle.routing.specs.Fields.{widths_of}
@@ -22,6 +23,10 @@ module _ {S T : Type 0} (o : Option (ℕ × ℕ)) (none : o ≡ None) where
       of : (q : Result T (Refused S)) → step_told q ≡ granted t → q ≡ Ok t
       of (Ok x) d = cc
       of (Err x) d = cc
+
+-- an answer is one of the two
+pub never_both : {S T : Type 0} {r : Result T S} {t : T} {s : S} → r ≡ Ok t → r ≡ Err s → ⊥
+never_both e d = subst (λ q. MatchResult q (λ _. ⊤) (λ _. ⊥)) (sym e ∙ d) tt
 
 pub step_changed : (o : Option (ℕ × ℕ)) → o ≡ None → (before after out : List ℕ) → out ≡ changed o before after → out ≡ after
 step_changed o none before after out e = e ∙ ap (λ r. changed r before after) none

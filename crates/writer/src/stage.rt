@@ -48,12 +48,12 @@ impl<P> Stage<P> {
     }
 }
 
-// Gives the file up, and keeps the fault.
-impl<P> From<Refused<Stage<P>>> for WriteFault {
-    ghost from_gives = { λ r f. f ≡ r.fault };
-
-    fn from(value: Refused<Stage<P>>) -> WriteFault {
-        let Refused { stage, fault } = value;
+impl<P> Refused<Stage<P>> {
+    // Gives the file up, and keeps the fault. It is no `From`: by `?` a stage would be lost without a word.
+    pub fn abandon(self) -> WriteFault
+        ensures { result ≡ self.fault }
+    {
+        let Refused { stage, fault } = self;
         stage.abandon();
         fault
     }

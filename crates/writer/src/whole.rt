@@ -38,9 +38,12 @@ fn put_rows<K: Kind, R: Rules<K>>(
     ensures eights { (k : ℕ) → k < length (R.rows rules.now) → length (slice_index_or (R.rows rules.now) k blank) ≡ 8 }
 {
     for rule in 0..rules.count() {
-        stage = stage.row(out, rules.row(rule))?;
+        stage = match stage.row(out, rules.row(rule)) {
+            Ok(next) => next,
+            Err(refused) => return Err(refused.abandon()),
+        };
     }
-    Ok(stage.turn()?)
+    stage.turn().map_err(|refused| refused.abandon())
 }
 
 // Writes all decisions and ends. There is no slice to go over: a list of rules is a trait.
@@ -59,9 +62,12 @@ fn put_decisions<K: Kind, R: Rules<K>>(
     ensures kept { (k : ℕ) → k < length (R.decisions rules.now) → (x : K) → K.reading (K.written (slice_index_or (R.decisions rules.now) k x)) ≡ slice_index_or (R.decisions rules.now) k x }
 {
     for rule in 0..rules.count() {
-        stage = stage.decision(out, rules.decision(rule).unwrap())?;
+        stage = match stage.decision(out, rules.decision(rule).unwrap()) {
+            Ok(next) => next,
+            Err(refused) => return Err(refused.abandon()),
+        };
     }
-    Ok(stage.end()?)
+    stage.end().map_err(|refused| refused.abandon())
 }
 
 // Writes a file of these widths and rules, with the header, the widths, the rows and the decisions in their places and no other byte

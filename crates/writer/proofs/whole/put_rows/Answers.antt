@@ -7,11 +7,11 @@ use Rattle.file.specs.Contents.{blank}
 use Rattle.writer.specs.Stages.{put, plan_fields, row_at, row_bytes, row_refusal}
 use Rattle.writer.proofs.Joins.{put_next, row_length, rows_length}
 use Rattle.writer.proofs.Rooms.{eight_times, row_room}
-use Rattle.writer.proofs.Steps.{stage_after, step_ok, step_changed, row_granted}
+use Rattle.writer.proofs.Steps.{stage_after, never_both, step_ok, step_changed, row_granted}
 use Rattle.writer.proofs.whole.put_rows.Goals as goal
 
-pub returns-in_err-stage : goal.returns-in_err-stage
-returns-in_err-stage g c =
+pub returns-in-Err : goal.returns-in-Err
+returns-in-Err g c =
     let p = c.args.stage.plan in
     let k = c.loop-rule.rule in
     let stands = c.loop-rule.invariant.stage in
@@ -21,8 +21,7 @@ returns-in_err-stage g c =
     in
     let answer = c.row-in-loop-rule.ensures.answer in
     let granted : c.row-in-loop-rule.result ≡ Ok (stage_after p (k + 1)) = step_ok _ none _ _ _ (rw stands at answer) in
-    let is = c.in_err-stage.was in
-    absurd cc
+    absurd (never_both granted c.in-Err.is)
 
 pub loop-rule-preserved : goal.loop-rule-preserved
 loop-rule-preserved g c =
@@ -42,7 +41,7 @@ loop-rule-preserved g c =
     let answer = c.row-in-loop-rule.ensures.answer in
     let after = c.row-in-loop-rule.ensures.after in
     let granted : c.row-in-loop-rule.result ≡ Ok (stage_after p (k + 1)) = step_ok _ none _ _ _ (rw stands at answer) in
-    let is = c.in_ok-stage.was in
+    let is = c.in-Ok.is in
     let to = row_at (stage_after p k) in
     let one : c.row-in-loop-rule.new.out ≡ put to (row_bytes d es) c.loop-rule.out = step_changed _ none _ _ _ (rw stands at after) in
     let room : to + length (row_bytes d es) ≤ length c.args.out.now =
