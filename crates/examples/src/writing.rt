@@ -8,33 +8,46 @@ use file::reader::TableFile;
 use file::rules::{RuleList, Rules};
 use routing::rule::Rule;
 use std::test::Fail;
-use writer::stage::{DecisionStage, RowStage, Stage};
+use writer::stage::{DecisionStage, Refused, RowStage, Stage};
 use writer::whole::{rewrite, write_table};
 
 const FIVE: Queue = Queue { queue: 5 };
 
-// Why a step was refused, if it was. The stage is given up.
-fn step_told<P, E: Into<WriteFault>>(answer: Result<Stage<P>, E>) -> Option<(u8, usize)> {
-    match answer {
-        Ok(next) => {
-            next.abandon();
-            None
-        }
-        Err(fault) => Some(told::<WriteFault>(fault.into())),
+// What a step answers; the stage of a refused one is given up.
+fn going_on<T, P>(step: Result<T, Refused<Stage<P>>>) -> Result<T, WriteFault> {
+    match step {
+        Ok(next) => Ok(next),
+        Err(refused) => Err(refused.abandon()),
     }
 }
 
+// Why there is no stage, if there is none. One that there is is given up.
+fn stage_told<P>(answer: Result<Stage<P>, WriteFault>) -> Option<(u8, usize)> {
+    match answer {
+        Ok(stage) => {
+            stage.abandon();
+            None
+        }
+        Err(fault) => Some(told::<WriteFault>(fault)),
+    }
+}
+
+// Why a step was refused, if it was.
+fn step_told<P, Q>(step: Result<Stage<P>, Refused<Stage<Q>>>) -> Option<(u8, usize)> {
+    stage_told(going_on(step))
+}
+
 // The same of what answers a length, which is not given up.
-fn length_told<E: Into<WriteFault>>(answer: Result<usize, E>) -> Option<(u8, usize)> {
+fn length_told(answer: Result<usize, WriteFault>) -> Option<(u8, usize)> {
     match answer {
         Ok(_) => None,
-        Err(fault) => Some(told::<WriteFault>(fault.into())),
+        Err(fault) => Some(told::<WriteFault>(fault)),
     }
 }
 
 fn start_told(widths: &[u8], rules: usize, room: usize) -> Option<(u8, usize)> {
     let mut out = [0u8; 64];
-    step_told(RowStage::start::<Queue>(widths, rules, &mut out[0..room.min(64)]))
+    stage_told(RowStage::start::<Queue>(widths, rules, &mut out[0..room.min(64)]))
 }
 
 #[test]
@@ -65,15 +78,15 @@ fn at_row(out: &mut [u8]) -> Result<RowStage, WriteFault> {
 }
 
 fn after_row(out: &mut [u8]) -> Result<RowStage, WriteFault> {
-    Ok(at_row(out)?.row(out, one_field(7, 7))?)
+    going_on(at_row(out)?.row(out, one_field(7, 7)))
 }
 
 fn at_decision(out: &mut [u8]) -> Result<DecisionStage, WriteFault> {
-    Ok(after_row(out)?.turn()?)
+    going_on(after_row(out)?.turn())
 }
 
 fn after_decision(out: &mut [u8]) -> Result<DecisionStage, WriteFault> {
-    Ok(at_decision(out)?.decision(out, FIVE)?)
+    going_on(at_decision(out)?.decision(out, FIVE))
 }
 
 // The refusal of a row, tried with so many bytes of the buffer.
@@ -131,7 +144,7 @@ fn refusals_of_a_decision(rt: HostRuntime) -> Result<(), Fail> {
         "one too many goes before the kind"
     );
     assert_eq!(rt;
-        length_told(at_decision(&mut out)?.end()),
+        length_told(going_on(at_decision(&mut out)?.end())),
         Some((17, 0)),
         "an end too early"
     );
@@ -142,17 +155,17 @@ fn refusals_of_a_decision(rt: HostRuntime) -> Result<(), Fail> {
 fn after_512_rows(out: &mut [u8]) -> Result<DecisionStage, WriteFault> {
     let mut stage = RowStage::start::<Queue>(&[32], 512, out)?;
     for _ in 0..512 {
-        stage = stage.row(out, one_field(0, 4294967295))?;
+        stage = going_on(stage.row(out, one_field(0, 4294967295)))?;
     }
-    Ok(stage.turn()?)
+    going_on(stage.turn())
 }
 
 fn after_512_decisions(out: &mut [u8]) -> Result<usize, WriteFault> {
     let mut stage = after_512_rows(out)?;
     for _ in 0..512 {
-        stage = stage.decision(out, Queue { queue: 255 })?;
+        stage = going_on(stage.decision(out, Queue { queue: 255 }))?;
     }
-    Ok(stage.end()?)
+    going_on(stage.end())
 }
 
 #[test]
