@@ -1,7 +1,5 @@
 // The service class of a handling: three codes have names.
-ghost use Rattle.std.specs.Prelude.{◌≡◌, ◌≤◌};
-
-use std::fmt;
+ghost use Rattle.std.specs.Prelude.{◌≤◌};
 
 // A class that has no name here, by its code, which is all that is known of it and never that of a named one.
 #[derive(Clone, Copy, Debug, PartialEq, Eq, Hash)]
@@ -18,44 +16,4 @@ pub enum Class {
     Unnamed(UnnamedClass),
 }
 
-// The one class that has this code.
-impl From<u8> for Class {
-    ghost use Rattle.decision.specs.Classes.{IsOnlyClass};
-
-    ghost from_gives = { IsOnlyClass };
-
-    fn from(value: u8) -> Class {
-        match value {
-            0 => Class::Ordinary,
-            1 => Class::Express,
-            2 => Class::Chilled,
-            _ => Class::Unnamed(UnnamedClass { code: value }),
-        }
-    }
-}
-
-impl From<Class> for u8 {
-    ghost use Rattle.decision.specs.Classes.{class_code};
-
-    ghost from_gives = { λ c r. r ≡ class_code c };
-
-    fn from(value: Class) -> u8 {
-        match value {
-            Class::Ordinary => 0,
-            Class::Express => 1,
-            Class::Chilled => 2,
-            Class::Unnamed(other) => other.code,
-        }
-    }
-}
-
-impl fmt::Display for Class {
-    fn fmt<W: fmt::Write>(&self, f: &mut fmt::Formatter<W>) -> fmt::Result {
-        match self {
-            Class::Ordinary => write!(f, "ordinary"),
-            Class::Express => write!(f, "express"),
-            Class::Chilled => write!(f, "chilled"),
-            Class::Unnamed(other) => write!(f, "{}", other.code),
-        }
-    }
-}
+pub mod codes;

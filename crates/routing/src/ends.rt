@@ -11,7 +11,7 @@ pub struct Ends {
 }
 
 impl Ends {
-    // Whether a value lies in the interval.
+    // Whether a value lies in the interval. Every other test of an interval calls this one.
     pub fn holds(self, value: u32) -> bool
         ensures { result ≡ holds self value }
     {
