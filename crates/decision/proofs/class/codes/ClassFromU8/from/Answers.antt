@@ -5,7 +5,7 @@ use Rattle.decision.specs.declared.class.Class.{Class}
 use Rattle.decision.specs.declared.class.Class.TheVariants.{Ordinary, Express, Chilled, Unnamed}
 use Rattle.decision.specs.declared.class.UnnamedClass.{UnnamedClass}
 use Rattle.decision.specs.Classes.{class_code}
-use Rattle.decision.proofs.class.ClassFromU8.from.Goals as goal
+use Rattle.decision.proofs.class.codes.ClassFromU8.from.Goals as goal
 
 -- classes with no name are the same where their codes are
 same_unnamed : (u v : UnnamedClass) → u.code ≡ v.code → u ≡ v
