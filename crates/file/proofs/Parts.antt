@@ -1,10 +1,11 @@
 -- Parts of a file. Assumes nothing.
-use Rattle.std.proofs.Common.{◌≡◌, ℕ, zero, suc, ◌+◌, ◌<◌, ◌≤◌, List, [], ◌∷◌, ◌++◌, map, length, get_or, take, drop, Some, None, refl, ap, ◌∙◌, arith, take-add}
+use Rattle.std.proofs.Common.{◌≡◌, ℕ, zero, suc, ◌+◌, ◌<◌, ◌≤◌, List, [], ◌∷◌, ◌++◌, map, length, get_or, take, drop, Some, None, sym, refl, ap, ◌∙◌, arith, take-add}
 use Rattle.std.specs.List.{range_with_len, slice_get}
 use Rattle.std.proofs.lemmas.List.FromFn.{length-map-range_with_len, get_or-map-range_with_len, fill_by_all}
 use Rattle.std.proofs.lemmas.Option.{slice_get-get_or, slice_get_past}
-use Rattle.std.proofs.lemmas.List.{length-drop, drop-drop, length-take-le, take_at, drop_at}
-use Rattle.file.specs.Layout.{part}
+use Rattle.std.proofs.lemmas.List.{length-drop, drop-drop, length-take-le, take_at, drop_at, get_or_past}
+use Rattle.file.specs.Layout.{part, rules, row_of}
+use Rattle.file.specs.Contents.{blank, rows_of, decision_bytes, decisions_of}
 
 module _ {X : Type 0} (f : ℕ → X) (n r : ℕ) where
   -- an item of a list that is made by counting, and none past its end
@@ -38,3 +39,26 @@ pub counted_items : {X : Type 0} (f : ℕ → X) (xs : List X) → ((k : ℕ) �
 counted_items f [] h = refl
 counted_items f (x ∷ xs) h =
     fill_by_all f (x ∷ xs) (length (x ∷ xs)) x refl (λ k l. h k l x)
+
+-- as many items as were counted
+pub counted_length : {X : Type 0} (f : ℕ → X) (n : ℕ) → length (map f (range_with_len 0 n)) ≡ n
+counted_length f n = length-map-range_with_len f 0 n
+
+module _ (bs : List ℕ) (r : ℕ) where
+  -- the pairs of a rule that there is, by its number
+  pub row_counted : (q : ℕ) → (q ≡ r) × (r < rules bs) → get_or (rows_of bs) r blank ≡ row_of bs q
+  row_counted q h = get_or-map-range_with_len (row_of bs) 0 (rules bs) r r blank h.1 (omega arith) ∙ ap (row_of bs) (sym h.0)
+
+  -- and past the last rule
+  pub row_beyond : rules bs ≤ r → get_or (rows_of bs) r blank ≡ blank
+  row_beyond h = get_or_past (rows_of bs) r blank (omega (arith, length-map-range_with_len (row_of bs) 0 (rules bs)))
+
+  -- the decision of a rule that there is, by its number
+  module _ {K : Type 0} (reading : List ℕ → K) (size : ℕ) where
+    pub decision_counted : (q : ℕ) → (q ≡ r) × (r < rules bs) → slice_get (decisions_of reading size bs) r ≡ Some (reading (decision_bytes bs size q))
+    decision_counted q h =
+        nth_counted (λ k. reading (decision_bytes bs size k)) (rules bs) r h.1 ∙ ap (λ k. Some (reading (decision_bytes bs size k))) (sym h.0)
+
+    -- and past the last rule
+    pub decision_beyond : rules bs ≤ r → slice_get (decisions_of reading size bs) r ≡ None
+    decision_beyond h = nth_beyond (λ k. reading (decision_bytes bs size k)) (rules bs) r h

@@ -34,10 +34,12 @@ impl<'a, K: Kind> Rules<K> for TableFile<'a, K> {
 
     ghost decisions = { λ f. decisions_of K.reading K.SIZE f.bytes.now };
 
+    #[tactic(auto, using(crate::proofs::Parts::counted_length))]
     fn count(&self) -> usize {
         usize::from(self.layout().rules)
     }
 
+    #[tactic(auto, using(crate::proofs::Parts::row_counted, crate::proofs::Parts::row_beyond))]
     fn row(&self, rule: usize) -> [Ends; 8] {
         match self.rule(rule) {
             Some(rule) => Counted::new(self.bytes, K::SIZE).row(rule),
@@ -45,6 +47,7 @@ impl<'a, K: Kind> Rules<K> for TableFile<'a, K> {
         }
     }
 
+    #[tactic(auto, using(crate::proofs::Parts::decision_counted, crate::proofs::Parts::decision_beyond))]
     fn decision(&self, rule: usize) -> Option<K> {
         let at = self.layout().decision(self.rule(rule)?);
         Some(K::read(part_of(self.bytes, at, usize::from(K::SIZE))))
