@@ -68,6 +68,25 @@ module _ (bs : List ℕ) (code size : ℕ) (small : Bytes bs) (h : Header bs cod
       joined_parts (row_bytes d) (row_of bs) (rows_at d) (8 * d) bs n (λ r i. row_again r i ∙ ap (λ m. part (rows_at d + m) (8 * d) bs) (sym (eight_times r d)))
       ∙ ap (λ m. part (rows_at d) m bs) (mul_comm n (8 * d) ∙ mul_assoc 8 d n)
 
+-- a file whose header, counts, widths and rows are lawful is refused only for lack of room
+only_room : (bs : List ℕ) (code size room : ℕ) → Header bs code → Counts bs size → widths_refusal (width_bytes bs) ≡ None → first_some (row_place bs) (rules bs) ≡ None
+    → table_refusal (width_bytes bs) (rows_of bs) size room ≡ room_refusal (length bs) room
+only_room bs code size room h k w r =
+    let n = rules bs in
+    let lw : length (width_bytes bs) ≡ fields bs = length_part 16 (fields bs) bs (omega (arith, k.long)) in
+    let lr : length (rows_of bs) ≡ n = length-map-range_with_len (row_of bs) 0 n in
+    let few : ltb 512 n ≡ false = le-ltb 512 n h.few_rules in
+    let start : start_refusal (width_bytes bs) (length (rows_of bs)) size room ≡ room_refusal (length bs) room =
+    rw (w, lr, few, lw) (ap (λ m. room_refusal m room) (sym k.long))
+    in
+    let rows : rows_refusal (width_bytes bs) (rows_of bs) ≡ None =
+    none_all _ (length (rows_of bs))
+    (λ j l.
+    ap (ends_refusal (width_bytes bs)) (get_or-map-range_with_len (row_of bs) 0 n j j blank (omega arith) (omega arith))
+    ∙ mapped_none _ (ends_refusal (width_bytes bs) (row_of bs j)) (some_none (row_place bs) n j (omega arith) r))
+    in
+    rw (start, rows) (first_last (room_refusal (length bs) room))
+
 module _ {K : Type 0} (written : K → List ℕ) (reading : List ℕ → K) (bs : List ℕ) (code size : ℕ) (small : Bytes bs) (h : Header bs code) (k : Counts bs size)
     (again : (xs : List ℕ) → length xs ≡ size → Bytes xs → written (reading xs) ≡ xs) where
   -- all decisions
@@ -105,39 +124,43 @@ module _ {K : Type 0} (written : K → List ℕ) (reading : List ℕ → K) (bs 
   pub rewritten : (room : ℕ) → widths_refusal (width_bytes bs) ≡ None → first_some (row_place bs) (rules bs) ≡ None
       → table_refusal (width_bytes bs) (rows_of bs) size room ≡ room_refusal (length bs) room
   rewritten room w r =
-      let n = rules bs in
-      let lw : length (width_bytes bs) ≡ fields bs = length_part 16 (fields bs) bs (omega (arith, k.long)) in
-      let lr : length (rows_of bs) ≡ n = length-map-range_with_len (row_of bs) 0 n in
-      let few : ltb 512 n ≡ false = le-ltb 512 n h.few_rules in
-      let start : start_refusal (width_bytes bs) (length (rows_of bs)) size room ≡ room_refusal (length bs) room =
-      rw (w, lr, few, lw) (ap (λ m. room_refusal m room) (sym k.long))
-      in
-      let rows : rows_refusal (width_bytes bs) (rows_of bs) ≡ None =
-      none_all _ (length (rows_of bs))
-      (λ j l.
-      ap (ends_refusal (width_bytes bs)) (get_or-map-range_with_len (row_of bs) 0 n j j blank (omega arith) (omega arith))
-      ∙ mapped_none _ (ends_refusal (width_bytes bs) (row_of bs j)) (some_none (row_place bs) n j (omega arith) r))
-      in
-      rw (start, rows) (first_last (room_refusal (length bs) room))
+      only_room bs code size room h k w r
+
+-- the bytes of what a lawful file holds are the file
+pub bytes_again : {K : Type 0} (written : K → List ℕ) (reading : List ℕ → K) (size : ℕ) → ((xs : List ℕ) → length xs ≡ size → Bytes xs → written (reading xs) ≡ xs)
+    → (bs : List ℕ) (code : ℕ) → file_refusal bs code size ≡ None → Bytes bs → file_bytes written code (width_bytes bs) (rows_of bs) (decisions_of reading size bs) ≡ bs
+bytes_again written reading size again bs code lawful small =
+    let s = file_says bs code size lawful in
+    file_again written reading bs code size small s.0 s.1 again
+
+-- why a lawful file is not written again
+pub reason_again : (bs : List ℕ) (code size room : ℕ) → file_refusal bs code size ≡ None
+    → rewrite_refusal bs code size room ≡ option_map (told_by Writer) (table_refusal (width_bytes bs) (rows_of bs) size room)
+reason_again bs code size room lawful =
+    let s = file_says bs code size lawful in
+    ap (λ o. first_told o (room_refusal (length bs) room)) lawful
+    ∙ ap (option_map (told_by Writer)) (sym (only_room bs code size room s.0 s.1 s.2 s.3))
+
+-- and how long it is
+pub long_again : (bs : List ℕ) (code size : ℕ) → file_refusal bs code size ≡ None → file_length (length (width_bytes bs)) (length (rows_of bs)) size ≡ length bs
+long_again bs code size lawful =
+    let s = file_says bs code size lawful in
+    let lw : length (width_bytes bs) ≡ fields bs = length_part 16 (fields bs) bs (omega (arith, s.1.long)) in
+    rw (lw, length-map-range_with_len (row_of bs) 0 (rules bs)) (sym s.1.long)
 
 module _ {K : Type 0} (written : K → List ℕ) (reading : List ℕ → K) (bs ws out : List ℕ) (code size : ℕ) (small : Bytes bs)
     (again : (xs : List ℕ) → length xs ≡ size → Bytes xs → written (reading xs) ≡ xs)
     (lawful : file_refusal bs code size ≡ None) (q : ws ≡ width_bytes bs) where
   -- the reason to refuse a lawful file
   pub rewrite_reason : rewrite_refusal bs code size (length out) ≡ option_map (told_by Writer) (table_refusal ws (rows_of bs) size (length out))
-  rewrite_reason =
-      let s = file_says bs code size lawful in
-      ap (λ o. first_told o (room_refusal (length bs) (length out))) lawful
-      ∙ ap (option_map (told_by Writer)) (sym (rewritten written reading bs code size small s.0 s.1 again (length out) s.2 s.3))
-      ∙ rw q
+  rewrite_reason = rw q (reason_again bs code size (length out) lawful)
 
   -- what the buffer then holds
   pub rewrite_after : (out' : List ℕ)
       → out' ≡ changed (table_refusal ws (rows_of bs) size (length out)) out (put 0 (file_bytes written code ws (rows_of bs) (decisions_of reading size bs)) out)
       → out' ≡ changed (rewrite_refusal bs code size (length out)) out (put 0 bs out)
   rewrite_after out' e =
-      let s = file_says bs code size lawful in
-      let same : file_bytes written code ws (rows_of bs) (decisions_of reading size bs) ≡ bs = rw q (file_again written reading bs code size small s.0 s.1 again) in
+      let same : file_bytes written code ws (rows_of bs) (decisions_of reading size bs) ≡ bs = rw q (bytes_again written reading size again bs code lawful small) in
       e
       ∙ ap (λ l. changed (table_refusal ws (rows_of bs) size (length out)) out (put 0 l out)) same
       ∙ sym (changed_mapped (table_refusal ws (rows_of bs) size (length out)) out (put 0 bs out))
@@ -145,7 +168,4 @@ module _ {K : Type 0} (written : K → List ℕ) (reading : List ℕ → K) (bs 
 
   -- and its length
   pub rewrite_long : file_length (length ws) (length (rows_of bs)) size ≡ length bs
-  rewrite_long =
-      let s = file_says bs code size lawful in
-      let lw : length (width_bytes bs) ≡ fields bs = length_part 16 (fields bs) bs (omega (arith, s.1.long)) in
-      rw (q, lw, length-map-range_with_len (row_of bs) 0 (rules bs)) (sym s.1.long)
+  rewrite_long = rw q (long_again bs code size lawful)

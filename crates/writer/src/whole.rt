@@ -98,6 +98,7 @@ pub fn write_table<K: Kind, R: Rules<K>>(
 
 // Reads a file and writes it again: an accepted file comes out with the same bytes, and the buffer is untouched behind them. It is
 // refused as the reader refuses it, or else only for lack of room, with the bytes needed and nothing written.
+#[tactic(auto, using(crate::proofs::Again::reason_again, crate::proofs::Again::long_again))]
 pub fn rewrite<K: Kind>(bytes: &[u8], out: &mut [u8]) -> Result<usize, RewriteFault>
     ensures answer { MatchResult result
         (λ n. (rewrite_refusal bytes.now K.CODE K.SIZE (length out.old) ≡ None) × (n ≡ length bytes.now))
