@@ -113,7 +113,8 @@ impl Widths {
         from_one(places.position(|(&value, &width)| !within(value, width)))
     }
 
-    // The first field, counted from 1, whose ends make no interval of it.
+    // The first field, counted from 1, whose ends make no interval of it. Inlined, so that a loop over rules counts the fields once.
+    #[inline(always)]
     pub fn ends_fault(self, ends: &[Ends; 8]) -> Option<u8>
         ensures { result ≡ ends_refusal (widths_of self) ends.now }
     {
