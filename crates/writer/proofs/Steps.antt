@@ -7,7 +7,7 @@ use Rattle.routing.specs.Fields.{widths_of}
 use Rattle.routing.specs.Lawful.{ends_refusal, widths_refusal}
 use Rattle.file.proofs.Refused.{settled, first_none}
 use Rattle.file.specs.Layout.{file_length}
-use Rattle.writer.specs.Stages.{plan_fields, plan_length, ready_refusal, row_refusal, decision_refusal, early_refusal, row_at, decision_place, step_told, granted, judged, changed, Planned, start_refusal}
+use Rattle.writer.specs.Stages.{plan_fields, plan_length, ready_refusal, row_refusal, decision_refusal, row_at, decision_place, step_told, granted, judged, changed, start_refusal}
 use Rattle.writer.specs.declared.stage.Plan.{Plan}
 use Rattle.writer.specs.declared.stage.Rows.{Rows}
 use Rattle.writer.specs.declared.stage.Decisions.{Decisions}
