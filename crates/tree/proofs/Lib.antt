@@ -15,3 +15,4 @@ pub mod Cells
 pub mod Meanings
 pub mod Lawfuls
 pub mod Leading
+pub mod Calls

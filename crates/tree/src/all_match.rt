@@ -97,14 +97,70 @@ impl<'a> Tree<'a> {
         requires { Proper self.now.fields ends.now }
         ensures { NeedsWith self.now ends.now result }
     {
-        let fields = self.fields;
-        self.store
-            .space_with(fields, self.root, first_of(ends, fields))
+        self.count_with(ends)
     }
 
     // Appends a rule of these intervals under the next number, if the rules with it need no more branches and marks than the tree may
     // use. Else nothing changes.
     pub fn append(&mut self, ends: &[Ends; 8], number: u16) -> Result<(), Lack>
+        requires means { Next self.old number }
+        requires proper { Proper self.old.fields ends.now }
+        ensures { Appends self.old self.new ends.now number result }
+    {
+        self.grow(ends, number)
+    }
+
+    // The link to the marks of the rules that match a message, in order; none where no rule does.
+    #[tactic(auto, using(crate::proofs::Calls::tree_stands, crate::proofs::Calls::tree_few, crate::proofs::Calls::looks_marks, crate::proofs::Calls::looks_some))]
+    pub fn look_up(&self, message: Message) -> Option<u32>
+        ensures { LooksUp self.now message result }
+    {
+        let at = self.store.cell(self.fields, self.root, message);
+        leads(at)
+    }
+
+    // The mark at a link.
+    pub fn mark(&self, at: u32) -> Mark
+        requires { Marked self.now at }
+        ensures { Reads self.now at result }
+    {
+        self.mark_at(at)
+    }
+
+    // The first cell below branches within given intervals.
+    #[tactic(auto, using(crate::proofs::Calls::tree_stands, crate::proofs::Calls::tree_few, crate::proofs::Calls::tree_some, crate::proofs::Calls::begins_first, crate::proofs::Calls::begins_right, crate::proofs::Calls::begins_found))]
+    pub fn first_cell(&self, within: &[Ends; 8]) -> Walk
+        ensures { Begins self.now within.now result }
+    {
+        self.store
+            .first_cell(first_of(within, self.fields), self.root)
+    }
+
+    // The cell after the one where a walk stands.
+    #[tactic(auto, using(crate::proofs::Calls::goes_found))]
+    pub fn next_cell(&self, within: &[Ends; 8], walk: Walk) -> Walk
+        requires { StandsAt self.now within.now walk }
+        ensures { GoesOn self.now within.now walk result }
+    {
+        self.store.next_cell(first_of(within, self.fields), walk)
+    }
+}
+
+// The work behind three of the calls, whose proofs are by hand.
+impl Tree<'_> {
+    ghost use Rattle.shape.specs.Meaning.{Proper};
+    ghost use Rattle.tree.specs.Calls.{Next, NeedsWith, Appends, Marked, Reads};
+
+    fn count_with(&self, ends: &[Ends; 8]) -> Space
+        requires { Proper self.now.fields ends.now }
+        ensures { NeedsWith self.now ends.now result }
+    {
+        let fields = self.fields;
+        self.store
+            .space_with(fields, self.root, first_of(ends, fields))
+    }
+
+    fn grow(&mut self, ends: &[Ends; 8], number: u16) -> Result<(), Lack>
         requires means { Next self.old number }
         requires proper { Proper self.old.fields ends.now }
         ensures { Appends self.old self.new ends.now number result }
@@ -125,35 +181,10 @@ impl<'a> Tree<'a> {
         Ok(())
     }
 
-    // The link to the marks of the rules that match a message, in order; none where no rule does.
-    pub fn look_up(&self, message: Message) -> Option<u32>
-        ensures { LooksUp self.now message result }
-    {
-        let at = self.store.cell(self.fields, self.root, message);
-        leads(at)
-    }
-
-    // The mark at a link.
-    pub fn mark(&self, at: u32) -> Mark
+    fn mark_at(&self, at: u32) -> Mark
         requires { Marked self.now at }
         ensures { Reads self.now at result }
     {
         self.store.marks.get(at)
-    }
-
-    // The first cell below branches within given intervals.
-    pub fn first_cell(&self, within: &[Ends; 8]) -> Walk
-        ensures { Begins self.now within.now result }
-    {
-        self.store
-            .first_cell(first_of(within, self.fields), self.root)
-    }
-
-    // The cell after the one where a walk stands.
-    pub fn next_cell(&self, within: &[Ends; 8], walk: Walk) -> Walk
-        requires { StandsAt self.now within.now walk }
-        ensures { GoesOn self.now within.now walk result }
-    {
-        self.store.next_cell(first_of(within, self.fields), walk)
     }
 }

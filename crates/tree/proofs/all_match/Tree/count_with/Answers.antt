@@ -3,7 +3,7 @@ use Rattle.std.specs.List.{AllByRecursion}
 use Rattle.shape.specs.Meaning.{Upward}
 use Rattle.tree.proofs.Recovers.{recovered, stood, some_tree}
 use Rattle.tree.proofs.Meanings.{upward, need_is}
-use Rattle.tree.proofs.all_match.Tree.space_with.Goals as goal
+use Rattle.tree.proofs.all_match.Tree.count_with.Goals as goal
 
 pub space_with-requires : goal.space_with-requires
 space_with-requires c =

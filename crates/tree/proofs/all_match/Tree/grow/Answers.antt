@@ -7,7 +7,7 @@ use Rattle.tree.specs.Means.{Means, lacking}
 use Rattle.routing.specs.declared.ends.Ends.{Ends}
 use Rattle.tree.proofs.Recovers.{read}
 use Rattle.tree.proofs.Meanings.{upward, Ready, next_fits, next_meant, room_kept, lacks_nothing, lacks_branches, lacks_marks}
-use Rattle.tree.proofs.all_match.Tree.append.Goals as goal
+use Rattle.tree.proofs.all_match.Tree.grow.Goals as goal
 
 -- the rules with the new one
 abbrev more : List (List Ends) → List Ends → List (List Ends)

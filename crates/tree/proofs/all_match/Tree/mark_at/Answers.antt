@@ -4,7 +4,7 @@ use Rattle.tree.specs.Links.{shape}
 use Rattle.tree.specs.Tours.{Lists}
 use Rattle.tree.proofs.Reading.{begin, stays_mark, seen_mark, after, less}
 use Rattle.tree.proofs.Leading.{leads, marked, left_most}
-use Rattle.tree.proofs.all_match.Tree.mark.Goals as goal
+use Rattle.tree.proofs.all_match.Tree.mark_at.Goals as goal
 
 pub get-requires : goal.get-requires
 get-requires c = stays_mark (begin c.args.self.now.store 0 c.args.at c.requires.0.1.0 (λ _. Unit {0}) c.requires.0.1.1 tt) refl c.requires.1
