@@ -108,9 +108,17 @@ impl Widths {
     pub fn message_fault(self, message: Message) -> Option<u8>
         ensures { result ≡ message_refusal (widths_of self) message }
     {
+        from_one(self.outside(&message))
+    }
+
+    // The same place, counted from 0.
+    fn outside(self, message: &Message) -> Option<usize>
+        ensures place { option_map (λ k. k + 1) result ≡ message_refusal (widths_of self) message.now }
+        ensures few { IfSome result (λ k. k < 8) }
+    {
         let widths = self.bytes();
         let mut places = message.iter().zip(&widths);
-        from_one(places.position(|(&value, &width)| !within(value, width)))
+        places.position(|(&value, &width)| !within(value, width))
     }
 
     // The first field, counted from 1, whose ends make no interval of it. Inlined, so that a loop over rules counts the fields once.
@@ -118,8 +126,17 @@ impl Widths {
     pub fn ends_fault(self, ends: &[Ends; 8]) -> Option<u8>
         ensures { result ≡ ends_refusal (widths_of self) ends.now }
     {
+        from_one(self.unfit(ends))
+    }
+
+    // The same field, counted from 0.
+    #[inline(always)]
+    fn unfit(self, ends: &[Ends; 8]) -> Option<usize>
+        ensures field { option_map (λ k. k + 1) result ≡ ends_refusal (widths_of self) ends.now }
+        ensures few { IfSome result (λ k. k < 8) }
+    {
         let widths = self.bytes();
         let mut fields = ends.iter().zip(&widths).take(self.fields());
-        from_one(fields.position(|(pair, &width)| !pair.fits(width)))
+        fields.position(|(pair, &width)| !pair.fits(width))
     }
 }

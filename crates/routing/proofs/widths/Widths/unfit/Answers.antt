@@ -11,14 +11,14 @@ use Rattle.routing.specs.Fields.{widths_of}
 use Rattle.routing.specs.Lawful.{ends_bad, fits}
 use Rattle.routing.specs.Space.{at}
 use Rattle.routing.proofs.First.{first_of, pair_at}
-use Rattle.routing.proofs.widths.Widths.ends_fault.Goals as goal
+use Rattle.routing.proofs.widths.Widths.unfit.Goals as goal
 
 -- ends and a width that do not go together
 abbrev unfit : Ends × ℕ → Bool
 unfit p = not (fits p.1 p.0)
 
-pub returns : goal.returns
-returns c =
+pub returns-clause-field : goal.returns-clause-field
+returns-clause-field c =
     let es = c.args.ends.now in
     let bs = c.bytes-widths.result in
     let ws = widths_of c.args.self in
@@ -31,8 +31,7 @@ returns c =
     rw (get_or-take d (zip es bs) k p h, pair_at es bs k p (record { low = 0; high = 0 }) 0 (omega (arith, c.args.self.tested.1)) (omega (arith, c.bytes-widths.ensures.long, c.args.self.tested.1)))
     (ap (λ w. not (fits w (at es k))) (c.bytes-widths.ensures.each k))
     in
-    c.from_one.ensures
-    ∙ ap (option_map (λ k. k + 1))
+    ap (option_map (λ k. k + 1))
     (position_from_yields_List unfit c.position.new.self _ c.position.result c.position.ensures.ran
     (YieldsList-from_take {s = c.take-fields.result} d
     (YieldsList-from_zip {s = c.take-fields.result.iter} (YieldsList-from_slice es (cc)) (YieldsList-from_slice bs (cc)))

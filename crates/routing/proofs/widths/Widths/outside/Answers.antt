@@ -8,15 +8,15 @@ use Rattle.std.proofs.lemmas.Iterator.Search.{position_from_yields_List}
 use Rattle.routing.specs.Fields.{widths_of}
 use Rattle.routing.specs.Lawful.{value_bad}
 use Rattle.routing.proofs.First.{first_of, pair_at}
-use Rattle.routing.proofs.widths.Widths.message_fault.Goals as goal
+use Rattle.routing.proofs.widths.Widths.outside.Goals as goal
 
 -- a value and a width that do not go together
 abbrev outside_field : ℕ × ℕ → Bool
 outside_field p = not (ltb p.0 (2 ^ p.1))
 
-pub returns : goal.returns
-returns c =
-    let m = c.args.message in
+pub returns-clause-place : goal.returns-clause-place
+returns-clause-place c =
+    let m = c.args.message.now in
     let bs = c.bytes-widths.result in
     let ws = widths_of c.args.self in
     let eight : length m ≡ 8 = search rules in
@@ -24,8 +24,7 @@ returns c =
     let same : (k : ℕ) (p : ℕ × ℕ) → k < 8 → outside_field (get_or (zip m bs) k p) ≡ value_bad ws m k =
     λ k p h. rw (pair_at m bs k p 0 0 (omega arith) (omega (arith, c.bytes-widths.ensures.long))) (ap (λ w. not (ltb (get_or m k 0) (2 ^ w))) (c.bytes-widths.ensures.each k))
     in
-    c.from_one.ensures
-    ∙ ap (option_map (λ k. k + 1))
+    ap (option_map (λ k. k + 1))
     (position_from_yields_List outside_field c.position.new.self _ c.position.result c.position.ensures.ran
     (YieldsList-from_zip {s = c.zip-places.result} (YieldsList-from_slice m (cc)) (YieldsList-from_slice bs (cc)))
     (λ x b q k. search (rules, tests)))
