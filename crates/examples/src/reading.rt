@@ -2,6 +2,8 @@
 use crate::common::told;
 use decision::handling::Handling;
 use decision::queue::Queue;
+use fault::reading::FileFault;
+use file::lawful::LawfulFile;
 use file::reader::TableFile;
 use file::rules::Rules;
 use routing::ends::Ends;
@@ -58,6 +60,20 @@ fn a_class_without_a_name(rt: HostRuntime) -> Result<(), Fail> {
     let decision = file.decision(0).ok_or("no decision")?;
     assert_eq!(rt; u8::from(decision.class()), 9);
     assert_eq!(rt; decision.keep, 300);
+    Ok(())
+}
+
+// A file whose type says that it is lawful for its kind is opened and refused as any other, and is a copy where it is handed on.
+#[test]
+fn lawful_by_its_type(rt: HostRuntime) -> Result<(), Fail> {
+    let file = LawfulFile::<Queue>::open(&QUEUES)?;
+    let copy = file;
+    assert_eq!(rt; copy.table.count(), 2);
+    assert_eq!(rt; queue_of(&file.table, 1), Some(7));
+    let other_kind = LawfulFile::<Queue>::open(&HANDLING).err();
+    assert_eq!(rt; other_kind.map(told::<FileFault>), Some((4, 2)));
+    let nothing = LawfulFile::<Handling>::open(&[]).err();
+    assert_eq!(rt; nothing.map(told::<FileFault>), Some((1, 0)));
     Ok(())
 }
 

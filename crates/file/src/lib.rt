@@ -2,6 +2,7 @@
 #![tactic(auto)]
 
 mod checks;
+pub mod lawful;
 pub mod layout;
 mod number;
 pub mod reader;

@@ -6,7 +6,7 @@ mod space;
 use decision::handling::Handling;
 use decision::kind::Kind;
 use decision::queue::Queue;
-use file::reader::TableFile;
+use file::lawful::LawfulFile;
 use intake::{FileKind, MOST, read_front, refuse};
 use routing::widths::Widths;
 use space::print_space;
@@ -16,11 +16,11 @@ use std::process::ExitCode;
 // The whole task for a kind of decision.
 fn report<K: Kind>(rt: &(impl AllocGlobal + Print + Eprint), bytes: &[u8]) -> io::Result<ExitCode> {
     // the same in both programs: the return is this function's, and no other can make it
-    let file = match TableFile::<K>::open(bytes) {
+    let file = match LawfulFile::<K>::open(bytes) {
         Ok(file) => file,
         Err(fault) => return refuse(rt, "tree_report", fault),
     };
-    match Widths::test(file.widths()) {
+    match Widths::test(file.table.widths()) {
         Ok(widths) => print_space(rt, widths, file),
         Err(_) => Ok(ExitCode::SUCCESS), // a lawful file has no such widths
     }

@@ -1,0 +1,41 @@
+// A file that is lawful for its own kind by its type.
+ghost use Rattle.std.specs.Prelude.{◌≡◌, ⊤, Some, None, MatchResult};
+ghost use Rattle.file.specs.Layout.{file_refusal};
+ghost use Rattle.fault.specs.Faults.{file_reason};
+
+use crate::reader::TableFile;
+use decision::kind::Kind;
+use fault::reading::FileFault;
+use std::alloc::AllocError;
+
+// An open file of decisions of the kind K. Its type says that it is lawful for this kind, and asks for a bound on K wherever it is named;
+// a `TableFile` asks for none, and says by its type only that it is lawful for some kind.
+pub struct LawfulFile<'a, K: Kind> {
+    pub table: TableFile<'a, K>,
+    ghost lawful: { file_refusal table.bytes.now K.CODE K.SIZE ≡ None },
+}
+
+// By hand: a derive is refused where a ghost field speaks of a parameter's members.
+impl<'a, K: Kind> Clone for LawfulFile<'a, K> {
+    ghost is_clone = { λ file copy. copy ≡ file };
+
+    ghost is_infallible = { λ _. ⊤ };
+
+    fn clone(&self) -> Result<Self, AllocError> {
+        Ok(*self)
+    }
+}
+
+impl<'a, K: Kind> Copy for LawfulFile<'a, K> {}
+
+impl<'a, K: Kind> LawfulFile<'a, K> {
+    // The file, or the first rule that it breaks.
+    pub fn open(bytes: &'a [u8]) -> Result<LawfulFile<'a, K>, FileFault>
+        ensures { MatchResult result
+            (λ f. (file_refusal bytes.now K.CODE K.SIZE ≡ None) × (f.table.bytes.now ≡ bytes.now))
+            (λ e. file_refusal bytes.now K.CODE K.SIZE ≡ Some (file_reason e)) }
+    {
+        let table = TableFile::open(bytes)?;
+        Ok(LawfulFile { table })
+    }
+}
