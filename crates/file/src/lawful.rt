@@ -8,8 +8,8 @@ use decision::kind::Kind;
 use fault::reading::FileFault;
 use std::alloc::AllocError;
 
-// An open file of decisions of the kind K. Its type says that it is lawful for this kind, and asks for a bound on K wherever it is named;
-// a `TableFile` asks for none, and says by its type only that it is lawful for some kind.
+// An open file with the fact that it is lawful for decisions of the kind K, so that whoever is handed one knows it. The type asks for a
+// bound on K wherever it is named; a `TableFile` asks for none, and says no more than that it is lawful for some kind.
 pub struct LawfulFile<'a, K: Kind> {
     pub table: TableFile<'a, K>,
     ghost lawful: { file_refusal table.bytes.now K.CODE K.SIZE ≡ None },

@@ -12,8 +12,8 @@ use fault::reading::FileFault;
 use std::alloc::AllocError;
 use std::marker::PhantomData;
 
-// A lawful file of decisions of the kind K, which `open` alone makes. That it is one of this kind is for `open` to say: a field that spoke of
-// the kind would ask for a bound on K wherever the type is named.
+// A lawful file of decisions of the kind K, which `open` alone makes. That it is one of this kind is for `open` to say, or for the type
+// `LawfulFile`: a field that spoke of the kind asks for a bound on K wherever the type is named.
 pub struct TableFile<'a, K> {
     pub(crate) bytes: &'a [u8],
     kind: PhantomData<K>,

@@ -5,6 +5,7 @@ use decision::handling::Handling;
 use decision::kind::Kind;
 use decision::queue::Queue;
 use file::lawful::LawfulFile;
+use file::reader::TableFile;
 use file::rules::Rules;
 use intake::{FileKind, MOST, read_front, refuse};
 use std::fmt::Display;
@@ -13,8 +14,8 @@ use std::process::ExitCode;
 use writer::whole::rewrite;
 
 // The fields with their values.
-fn print_fields<K: Kind>(rt: &impl Print, file: &LawfulFile<'_, K>) -> io::Result<()> {
-    for (k, &width) in file.table.widths().iter().enumerate() {
+fn print_fields<K: Kind>(rt: &impl Print, file: &TableFile<'_, K>) -> io::Result<()> {
+    for (k, &width) in file.widths().iter().enumerate() {
         let most = (1u64 << width.min(32)) - 1;
         println!(rt; "field {}: {width} bits, 0 to {most}", k + 1)?;
     }
@@ -24,13 +25,13 @@ fn print_fields<K: Kind>(rt: &impl Print, file: &LawfulFile<'_, K>) -> io::Resul
 // The intervals and the decision of a rule.
 fn print_rule<K: Kind + Display>(
     rt: &impl Print,
-    file: &LawfulFile<'_, K>,
+    file: &TableFile<'_, K>,
     rule: usize,
 ) -> io::Result<()> {
-    for pair in file.table.row(rule).iter().take(file.table.fields()) {
+    for pair in file.row(rule).iter().take(file.fields()) {
         print!(rt; " [{}, {}]", pair.low, pair.high)?;
     }
-    match file.table.decision(rule) {
+    match file.decision(rule) {
         Some(decision) => println!(rt; " -> {decision}"),
         None => println!(rt),
     }
@@ -49,11 +50,11 @@ fn report<K: Kind + Display>(
     };
     let rules = file.table.count();
     println!(rt; "table of {kind}: {rules} rules, {} fields", file.table.fields())?;
-    print_fields(rt, &file)?;
+    print_fields(rt, &file.table)?;
     // there is no slice to go over: a rule is read from the bytes
     for rule in 0..rules {
         print!(rt; "rule {}:", rule + 1)?;
-        print_rule(rt, &file, rule)?;
+        print_rule(rt, &file.table, rule)?;
     }
     let mut again = [0u8; MOST];
     match rewrite::<K>(bytes, &mut again) {
