@@ -49,7 +49,10 @@ fn report<K: Kind + Display>(
         Err(fault) => return refuse(rt, "report", fault),
     };
     let rules = file.table.count();
-    println!(rt; "table of {kind}: {rules} rules, {} fields", file.table.fields())?;
+    println!(rt;
+        "table of {kind}: {rules} rules, {} fields",
+        file.table.fields()
+    )?;
     print_fields(rt, &file.table)?;
     // there is no slice to go over: a rule is read from the bytes
     for rule in 0..rules {
