@@ -5,7 +5,6 @@ use decision::handling::Handling;
 use decision::kind::Kind;
 use decision::queue::Queue;
 use file::lawful::LawfulFile;
-use file::reader::TableFile;
 use file::rules::Rules;
 use intake::{FileKind, MOST, read_front, refuse};
 use std::fmt::Display;
@@ -14,8 +13,8 @@ use std::process::ExitCode;
 use writer::whole::rewrite;
 
 // The fields with their values.
-fn print_fields<K: Kind>(rt: &impl Print, file: &TableFile<'_, K>) -> io::Result<()> {
-    for (k, &width) in file.widths().iter().enumerate() {
+fn print_fields<K: Kind>(rt: &impl Print, file: &LawfulFile<'_, K>) -> io::Result<()> {
+    for (k, &width) in file.table.widths().iter().enumerate() {
         let most = (1u64 << width.min(32)) - 1;
         println!(rt; "field {}: {width} bits, 0 to {most}", k + 1)?;
     }
@@ -25,13 +24,13 @@ fn print_fields<K: Kind>(rt: &impl Print, file: &TableFile<'_, K>) -> io::Result
 // The intervals and the decision of a rule.
 fn print_rule<K: Kind + Display>(
     rt: &impl Print,
-    file: &TableFile<'_, K>,
+    file: &LawfulFile<'_, K>,
     rule: usize,
 ) -> io::Result<()> {
-    for pair in file.row(rule).iter().take(file.fields()) {
+    for pair in file.table.row(rule).iter().take(file.table.fields()) {
         print!(rt; " [{}, {}]", pair.low, pair.high)?;
     }
-    match file.decision(rule) {
+    match file.table.decision(rule) {
         Some(decision) => println!(rt; " -> {decision}"),
         None => println!(rt),
     }
@@ -53,11 +52,11 @@ fn report<K: Kind + Display>(
         "table of {kind}: {rules} rules, {} fields",
         file.table.fields()
     )?;
-    print_fields(rt, &file.table)?;
+    print_fields(rt, &file)?;
     // there is no slice to go over: a rule is read from the bytes
     for rule in 0..rules {
         print!(rt; "rule {}:", rule + 1)?;
-        print_rule(rt, &file.table, rule)?;
+        print_rule(rt, &file, rule)?;
     }
     let mut again = [0u8; MOST];
     match rewrite::<K>(bytes, &mut again) {

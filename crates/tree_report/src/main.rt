@@ -21,7 +21,7 @@ fn report<K: Kind>(rt: &(impl AllocGlobal + Print + Eprint), bytes: &[u8]) -> io
         Err(fault) => return refuse(rt, "tree_report", fault),
     };
     match Widths::test(file.table.widths()) {
-        Ok(widths) => print_space(rt, widths, file.table),
+        Ok(widths) => print_space(rt, widths, file),
         Err(_) => Ok(ExitCode::SUCCESS), // a lawful file has no such widths
     }
 }

@@ -4,7 +4,7 @@ ghost use Rattle.routing.specs.Fields.{widths_of};
 ghost use Rattle.tree.specs.Means.{Means};
 
 use decision::kind::Kind;
-use file::reader::TableFile;
+use file::lawful::LawfulFile;
 use file::rules::Rules;
 use routing::rule::Message;
 use routing::widths::Widths;
@@ -39,15 +39,19 @@ fn memory(alloc: Global) -> Result<(Vec<Branch>, Vec<Mark>), AllocError> {
 }
 
 // Appends a file's rules to an empty tree, as far as its space goes, and says how many they are.
-fn grow<K: Kind>(tree: &mut Tree<'_>, widths: Widths, file: TableFile<'_, K>) -> Result<usize, Full>
+fn grow<K: Kind>(
+    tree: &mut Tree<'_>,
+    widths: Widths,
+    file: LawfulFile<'_, K>,
+) -> Result<usize, Full>
     requires empty { Means tree.old [] }
     requires fields { tree.old.fields ≡ length (widths_of widths) }
     ensures { IfErr result (λ full. full.rules < 512) }
 {
-    let count = file.count().min(512);
+    let count = file.table.count().min(512);
     // there is no slice to go over: a rule is read from the bytes
     for rule in 0..count {
-        let ends = file.row(rule);
+        let ends = file.table.row(rule);
         if widths.ends_fault(&ends).is_some() {
             return Ok(rule); // a lawful file has no such rule
         }
@@ -75,7 +79,7 @@ fn print_matching(rt: &impl Print, tree: &Tree<'_>, message: Message) -> io::Res
 fn print_tree<K: Kind>(
     rt: &impl Print,
     tree: &Tree<'_>,
-    file: TableFile<'_, K>,
+    file: LawfulFile<'_, K>,
     rules: usize,
 ) -> io::Result<()> {
     let used = tree.used();
@@ -86,7 +90,7 @@ fn print_tree<K: Kind>(
     // nor is there here
     for rule in 0..rules {
         print!(rt; "low corner of rule {}: rules", rule + 1)?;
-        print_matching(rt, tree, file.row(rule).map(|pair| pair.low))?;
+        print_matching(rt, tree, file.table.row(rule).map(|pair| pair.low))?;
     }
     Ok(())
 }
@@ -95,7 +99,7 @@ fn print_tree<K: Kind>(
 pub(crate) fn print_space<K: Kind>(
     rt: &(impl AllocGlobal + Print + Eprint),
     widths: Widths,
-    file: TableFile<'_, K>,
+    file: LawfulFile<'_, K>,
 ) -> io::Result<ExitCode> {
     let Ok((mut branches, mut marks)) = memory(rt.alloc()) else {
         eprintln!(rt; "tree_report: there is no memory for the tree")?;
