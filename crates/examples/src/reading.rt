@@ -63,7 +63,7 @@ fn a_class_without_a_name(rt: HostRuntime) -> Result<(), Fail> {
     Ok(())
 }
 
-// A file whose type says that it is lawful for its kind is opened and refused as any other, and is a copy where it is handed on.
+// A file whose type says that it is lawful for its kind is opened and refused as any other, and copied where it is handed on.
 #[test]
 fn lawful_by_its_type(rt: HostRuntime) -> Result<(), Fail> {
     let file = LawfulFile::<Queue>::open(&QUEUES)?;

@@ -15,7 +15,7 @@ pub struct LawfulFile<'a, K: Kind> {
     ghost lawful: { file_refusal table.bytes.now K.CODE K.SIZE ≡ None },
 }
 
-// By hand: a derive is refused where a ghost field speaks of a parameter's members.
+// By hand: none is derived for a struct that has parameters and a ghost field.
 impl<'a, K: Kind> Clone for LawfulFile<'a, K> {
     ghost is_clone = { λ file copy. copy ≡ file };
 

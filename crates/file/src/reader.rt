@@ -20,7 +20,7 @@ pub struct TableFile<'a, K> {
     ghost lawful: { Lawful bytes.now },
 }
 
-// By hand: a derive would ask it of K.
+// By hand: none is derived for a struct that has parameters and a ghost field, and a derived one would ask it of K.
 impl<'a, K> Clone for TableFile<'a, K> {
     ghost is_clone = { λ file copy. copy ≡ file };
 
